@@ -1,0 +1,18 @@
+-- The term of a node that was opened, and the bound of its parts.
+use Rattle.std.specs.Prelude.{ℕ, ◌<◌}
+use Rattle.m5_terms.specs.Expression.{Expression, leaf, unary, binary, ternary, node_count}
+use Rattle.m5_terms.specs.declared.opened.Opened.{Opened}
+use Rattle.m5_terms.specs.declared.opened.Opened.TheVariants as of_opened
+
+abbrev pub opened : Opened → Expression
+opened (of_opened.Leaf f) = leaf f
+opened (of_opened.Unary f a) = unary f a.now
+opened (of_opened.Binary f a b) = binary f a.now b.now
+opened (of_opened.Ternary f a b c) = ternary f a.now b.now c.now
+
+-- each part has fewer nodes
+abbrev pub PartsAreSmaller : ℕ → Opened → Type 0
+PartsAreSmaller n (of_opened.Leaf f) = Unit {0}
+PartsAreSmaller n (of_opened.Unary f a) = node_count a.now < n
+PartsAreSmaller n (of_opened.Binary f a b) = (node_count a.now < n) × (node_count b.now < n)
+PartsAreSmaller n (of_opened.Ternary f a b c) = (node_count a.now < n) × (node_count b.now < n) × (node_count c.now < n)
