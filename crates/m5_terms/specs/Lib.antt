@@ -7,3 +7,7 @@ pub mod Opened
 pub mod Size
 pub mod Primitives
 pub mod Taken
+pub mod Machine
+pub mod Asks
+pub mod Width
+pub mod Worlds

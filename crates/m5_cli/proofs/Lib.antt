@@ -1,0 +1,5 @@
+mod Claims
+mod Closing
+mod Speaking
+mod Steps
+mod Texts

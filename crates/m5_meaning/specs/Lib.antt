@@ -1,0 +1,5 @@
+pub mod Parts
+pub mod Numbers
+pub mod Site
+pub mod Reduction
+pub mod Step
