@@ -7,3 +7,7 @@ pub mod Opened
 pub mod Size
 pub mod Primitives
 pub mod Taken
+pub mod Closed
+pub mod Worlds
+pub mod Seal
+pub mod Text

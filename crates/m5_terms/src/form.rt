@@ -40,7 +40,7 @@ pub enum UnaryForm {
 }
 
 /// A form of two parts.
-#[derive(Drop)]
+#[derive(Clone, Copy)]
 pub enum BinaryForm {
     Call,
     Pair,
@@ -56,7 +56,7 @@ pub enum BinaryForm {
 }
 
 /// A form of three parts.
-#[derive(Drop)]
+#[derive(Clone, Copy)]
 pub enum TernaryForm {
     If,
     CaseSum(u32, u32),

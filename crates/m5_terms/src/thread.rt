@@ -1,10 +1,12 @@
 //! Threads.
 
-ghost use Rattle.std.specs.Prelude.{◌≡◌, ◌^◌, ◌-◌, min, length};
-ghost use Rattle.m5_terms.specs.Size.{node_size, frame_size, focus_size, thread_size, frames_size};
+ghost use Rattle.std.specs.Prelude.{◌≡◌, ◌+◌, ◌^◌, ◌-◌, min, length};
+ghost use Rattle.m5_terms.specs.Opened.{viewed_leaf};
+ghost use Rattle.m5_terms.specs.Size.{text_size, node_size, frame_size, focus_size, thread_size, frames_size};
 
 use crate::listed::Listed;
-use crate::node::{Node, Term};
+use crate::node::Node;
+use crate::opened::{LeafView, Opened};
 use crate::types::World;
 
 /// What waits for a value.
@@ -28,70 +30,27 @@ pub struct Thread {
     pub focus: Focus,
 }
 
+fn size_of_leaf(form: &LeafView<'_>) -> u64
+    ensures { result ≡ min (1 + text_size (viewed_leaf form.now)) (2 ^ 64 - 1) }
+{
+    match form {
+        LeafView::Str(text) => 1u64.saturating_add(text.bytes().len() as u64),
+        _ => 1,
+    }
+}
+
 fn size_of_node(node: &Node) -> u64
     ensures { result ≡ min (node_size node.now) (2 ^ 64 - 1) }
 {
-    match &node.term {
-        Term::Var(_)
-        | Term::Valid(_)
-        | Term::Glob(_)
-        | Term::Extern(_)
-        | Term::Unit
-        | Term::Bool(_)
-        | Term::Int(_)
-        | Term::Addr(_)
-        | Term::Here
-        | Term::Nil { .. }
-        | Term::CellAt(_, _) => 1,
-        Term::Str(text) => 1u64.saturating_add(text.bytes().len() as u64),
-        Term::Fn { first, .. }
-        | Term::Rec { first, .. }
-        | Term::Fst { first }
-        | Term::Snd { first }
-        | Term::StrOf { first }
-        | Term::Div { first }
-        | Term::NewCell { first }
-        | Term::Load { first }
-        | Term::Hold { first }
-        | Term::Sham { first }
-        | Term::Spawn { first }
-        | Term::Inl { first, .. }
-        | Term::Inr { first, .. }
-        | Term::Held(_, first) => 1u64.saturating_add(size_of_node(first.get())),
-        Term::Call { first, second }
-        | Term::Pair { first, second }
-        | Term::Cons { first, second }
-        | Term::Store { first, second }
-        | Term::Do { first, second }
-        | Term::Get { first, second }
-        | Term::Binary { first, second, .. }
-        | Term::Val { first, second, .. }
-        | Term::Put { first, second, .. }
-        | Term::Leta { first, second, .. }
-        | Term::Lets { first, second, .. } => {
-            1u64.saturating_add(size_of_node(first.get()).saturating_add(size_of_node(
-                second.get(),
-            )))
+    match node.open() {
+        Opened::Leaf(form) => size_of_leaf(&form),
+        Opened::Unary(_, first) => 1u64.saturating_add(size_of_node(first)),
+        Opened::Binary(_, first, second) => {
+            1u64.saturating_add(size_of_node(first).saturating_add(size_of_node(second)))
         }
-        Term::If {
-            first,
-            second,
-            third,
-        }
-        | Term::CaseSum {
-            first,
-            second,
-            third,
-            ..
-        }
-        | Term::CaseList {
-            first,
-            second,
-            third,
-            ..
-        } => {
-            let others = size_of_node(second.get()).saturating_add(size_of_node(third.get()));
-            1u64.saturating_add(size_of_node(first.get()).saturating_add(others))
+        Opened::Ternary(_, first, second, third) => {
+            let others = size_of_node(second).saturating_add(size_of_node(third));
+            1u64.saturating_add(size_of_node(first).saturating_add(others))
         }
     }
 }
