@@ -10,6 +10,7 @@ use crate::opened::{LeafView, Opened, UnaryView};
 use std::alloc::{AllocError, Global};
 
 impl LeafView<'_> {
+    /// The form with a text or type of its own.
     pub fn copy(&self, alloc: Global) -> Result<LeafForm, AllocError>
         ensures { IfOk result (λ f. f ≡ viewed_leaf self.now) }
     {
@@ -31,6 +32,7 @@ impl LeafView<'_> {
 }
 
 impl UnaryView<'_> {
+    /// The form with types of its own.
     pub fn copy(&self, alloc: Global) -> Result<UnaryForm, AllocError>
         ensures { IfOk result (λ f. f ≡ viewed_unary self.now) }
     {
@@ -57,6 +59,7 @@ impl UnaryView<'_> {
 }
 
 impl Node {
+    /// The same term again, in memory of its own.
     #[cycle(copy_node)]
     pub fn copy(&self, alloc: Global) -> Result<Node, AllocError>
         ensures { IfOk result (λ n. n ≡ self.now) }
