@@ -1,7 +1,7 @@
 -- The primitives' names, types and worlds.
-use Rattle.std.specs.Prelude.{ℕ, List, [], ◌∷◌, codes}
+use Rattle.std.specs.Prelude.{ℕ, List, codes}
 use Rattle.m5_terms.specs.declared.types.World.{World}
-use Rattle.m5_terms.specs.declared.types.World.TheVariants.{Home, Server, Any}
+use Rattle.m5_terms.specs.declared.types.World.TheVariants.{Home, Server}
 use Rattle.m5_terms.specs.TypeExpression.{TypeExpression, unit, string, product, sum, function}
 use Rattle.m5_terms.specs.declared.types.Primitive.{Primitive}
 use Rattle.m5_terms.specs.declared.types.Primitive.TheVariants as primitive

@@ -1,17 +1,19 @@
 //! Which variables a form binds in a part.
 
 ghost use Rattle.std.specs.Prelude.{◌≡◌, Bool};
+ghost use Rattle.m5_terms.specs.Opened.{viewed_unary};
 ghost use Rattle.m5_terms.specs.Substitution.{among, unary_binders, binary_binders, second_binders, third_binders};
 
-use crate::form::{BinaryForm, TernaryForm, UnaryForm};
+use crate::form::{BinaryForm, TernaryForm};
+use crate::opened::UnaryView;
 
-impl UnaryForm {
+impl UnaryView<'_> {
     pub fn binds(&self, variable: u32) -> bool
-        ensures { result ≡ among variable (unary_binders self.now) }
+        ensures { result ≡ among variable (unary_binders (viewed_unary self.now)) }
     {
         match self {
-            UnaryForm::Fn(var, _) => variable == *var,
-            UnaryForm::Rec(function, parameter, _, _) => variable == *parameter
+            UnaryView::Fn(var, _) => variable == *var,
+            UnaryView::Rec(function, parameter, _, _) => variable == *parameter
                 || variable == *function,
             _ => false,
         }

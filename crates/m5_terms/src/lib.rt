@@ -10,8 +10,13 @@ pub mod listed;
 pub mod node;
 pub mod opened;
 pub mod primitives;
+pub mod seal;
+pub mod size;
 pub mod substitute;
 pub mod taken;
+#[cfg(test)]
+mod tests;
 pub mod text;
 pub mod thread;
 pub mod types;
+pub mod worlds;

@@ -1,4 +1,4 @@
-//! Terms.
+//! Terms as the program keeps them.
 
 ghost use Rattle.std.specs.Prelude.{◌≡◌, IfOk};
 ghost use Rattle.m5_terms.specs.TermMeaning.{term_meaning};
@@ -8,6 +8,7 @@ use crate::types::{Op, Prim, Ty, World};
 use std::alloc::{AllocError, Global};
 use std::marker::Model;
 
+/// A term. Contracts see it as plain data, an `Expression`.
 #[cycle(node)]
 pub struct Node {
     pub term: Term,
@@ -98,6 +99,9 @@ impl NodeBox {
     }
 }
 
+/// One variant for each form of a term. `first`, `second` and `third` are its parts in the order
+/// of the text, `var` and `other` what it binds, `ty` and `result` the types written in it.
+/// `Held` and `CellAt` are values of a run that no text has.
 #[cycle(node)]
 #[derive(Drop)]
 pub enum Term {

@@ -7,7 +7,7 @@ ghost use Rattle.m5_terms.specs.Primitives.{primitive_name, primitive_type, prim
 use crate::types::{Prim, Primitive, Shape, Ty, TypeBox, World};
 use std::alloc::{AllocError, Global};
 
-/// The primitive of a name.
+/// The primitive that an extern of this name declares, if there is one.
 pub fn extern_of(name: &[u8]) -> Option<Prim>
     ensures { MatchOption result ((p : Primitive) → name.now ≢ primitive_name p) (λ p. name.now ≡ primitive_name p) }
 {
@@ -36,6 +36,7 @@ fn from(alloc: Global, first: Ty, second: Ty) -> Result<Ty, AllocError>
 }
 
 impl Primitive {
+    /// The world at which the primitive may be used.
     pub fn world(self) -> World
         ensures { result ≡ primitive_world self }
     {
@@ -45,6 +46,7 @@ impl Primitive {
         }
     }
 
+    /// The type at which an extern may declare it.
     pub fn ty(self, alloc: Global) -> Result<Ty, AllocError>
         ensures { IfOk result (λ t. t ≡ primitive_type self) }
     {

@@ -2,21 +2,27 @@
 
 ghost use Rattle.std.specs.Prelude.{◌≡◌, Bool, IfOk};
 ghost use Rattle.m5_terms.specs.Expression.{Expression, leaf, unary, binary, ternary};
+ghost use Rattle.m5_terms.specs.Opened.{viewed_leaf};
 ghost use Rattle.m5_terms.specs.Substitution.{substituted, substituted_leaf, unless};
+ghost use Rattle.m5_terms.specs.Closed.{IsClosed};
 
 use crate::copy::kept;
-use crate::form::LeafForm;
 use crate::node::{Node, NodeBox};
-use crate::opened::Opened;
+use crate::opened::{LeafView, Opened};
 use std::alloc::{AllocError, Global};
 
-fn at_leaf(alloc: Global, variable: u32, value: &Node, form: LeafForm) -> Result<Node, AllocError>
-    ensures { IfOk result (λ n. n ≡ substituted_leaf variable value.now form) }
+fn at_leaf(
+    alloc: Global,
+    variable: u32,
+    value: &Node,
+    form: &LeafView<'_>,
+) -> Result<Node, AllocError>
+    ensures { IfOk result (λ n. n ≡ substituted_leaf variable value.now (viewed_leaf form.now)) }
 {
     match form {
-        LeafForm::Var(x) if x == variable => value.copy(alloc),
-        LeafForm::Valid(x) if x == variable => value.copy(alloc),
-        other => Ok(Node::leaf(other)),
+        LeafView::Var(x) if *x == variable => value.copy(alloc),
+        LeafView::Valid(x) if *x == variable => value.copy(alloc),
+        other => Ok(Node::leaf(other.copy(alloc)?)),
     }
 }
 
@@ -29,6 +35,7 @@ fn in_part(
     bound: bool,
     part: &Node,
 ) -> Result<NodeBox, AllocError>
+    requires { IsClosed value.now }
     ensures { IfOk result (λ n. n ≡ unless bound part.now (substituted variable value.now part.now)) }
 {
     if bound {
@@ -38,6 +45,8 @@ fn in_part(
     }
 }
 
+/// The term with the closed value for each free use of the variable. Where a binder has the
+/// variable's number, nothing changes in its scope.
 #[cycle(substitute)]
 pub fn substitute(
     alloc: Global,
@@ -45,14 +54,15 @@ pub fn substitute(
     value: &Node,
     term: &Node,
 ) -> Result<Node, AllocError>
+    requires { IsClosed value.now }
     ensures { IfOk result (λ n. n ≡ substituted variable value.now term.now) }
 {
-    let opened = term.open(alloc)?;
-    match opened {
-        Opened::Leaf(form) => at_leaf(alloc, variable, value, form),
+    match term.open() {
+        Opened::Leaf(form) => at_leaf(alloc, variable, value, &form),
         Opened::Unary(form, first) => {
             let bound = form.binds(variable);
-            Ok(Node::unary(form, in_part(alloc, variable, value, bound, first)?))
+            let copied = form.copy(alloc)?;
+            Ok(Node::unary(copied, in_part(alloc, variable, value, bound, first)?))
         }
         Opened::Binary(form, first, second) => {
             let bound = form.binds(variable);

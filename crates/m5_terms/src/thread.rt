@@ -1,131 +1,30 @@
-//! Threads.
-
-ghost use Rattle.std.specs.Prelude.{◌≡◌, ◌^◌, ◌-◌, min, length};
-ghost use Rattle.m5_terms.specs.Size.{node_size, frame_size, focus_size, thread_size, frames_size};
+//! Threads of a run.
 
 use crate::listed::Listed;
-use crate::node::{Node, Term};
+use crate::node::Node;
 use crate::types::World;
 
-/// What waits for a value.
+/// What waits for a value. The parts of a `Part`'s node before part `hole`, counted from 0, are
+/// values, and that part is being evaluated. A `Return` sends the value to that world.
 #[derive(Drop)]
 pub enum Frame {
     Part { world: World, node: Node, hole: u32 },
     Return(World),
 }
 
+/// The frames of a thread, the top one last.
 pub type Frames = Listed<Frame>;
 
+/// What a thread is at: a term to evaluate at a world, or a value that comes back there.
 #[derive(Drop)]
 pub enum Focus {
     Eval(World, Node),
     Returned(World, Node),
 }
 
+/// A thread of a site.
 #[derive(Drop)]
 pub struct Thread {
     pub frames: Frames,
     pub focus: Focus,
-}
-
-fn size_of_node(node: &Node) -> u64
-    ensures { result ≡ min (node_size node.now) (2 ^ 64 - 1) }
-{
-    match &node.term {
-        Term::Var(_)
-        | Term::Valid(_)
-        | Term::Glob(_)
-        | Term::Extern(_)
-        | Term::Unit
-        | Term::Bool(_)
-        | Term::Int(_)
-        | Term::Addr(_)
-        | Term::Here
-        | Term::Nil { .. }
-        | Term::CellAt(_, _) => 1,
-        Term::Str(text) => 1u64.saturating_add(text.bytes().len() as u64),
-        Term::Fn { first, .. }
-        | Term::Rec { first, .. }
-        | Term::Fst { first }
-        | Term::Snd { first }
-        | Term::StrOf { first }
-        | Term::Div { first }
-        | Term::NewCell { first }
-        | Term::Load { first }
-        | Term::Hold { first }
-        | Term::Sham { first }
-        | Term::Spawn { first }
-        | Term::Inl { first, .. }
-        | Term::Inr { first, .. }
-        | Term::Held(_, first) => 1u64.saturating_add(size_of_node(first.get())),
-        Term::Call { first, second }
-        | Term::Pair { first, second }
-        | Term::Cons { first, second }
-        | Term::Store { first, second }
-        | Term::Do { first, second }
-        | Term::Get { first, second }
-        | Term::Binary { first, second, .. }
-        | Term::Val { first, second, .. }
-        | Term::Put { first, second, .. }
-        | Term::Leta { first, second, .. }
-        | Term::Lets { first, second, .. } => {
-            1u64.saturating_add(size_of_node(first.get()).saturating_add(size_of_node(
-                second.get(),
-            )))
-        }
-        Term::If {
-            first,
-            second,
-            third,
-        }
-        | Term::CaseSum {
-            first,
-            second,
-            third,
-            ..
-        }
-        | Term::CaseList {
-            first,
-            second,
-            third,
-            ..
-        } => {
-            let others = size_of_node(second.get()).saturating_add(size_of_node(third.get()));
-            1u64.saturating_add(size_of_node(first.get()).saturating_add(others))
-        }
-    }
-}
-
-fn size_of_frame(frame: &Frame) -> u64
-    ensures { result ≡ min (frame_size frame.now) (2 ^ 64 - 1) }
-{
-    match frame {
-        Frame::Part { node, .. } => 1u64.saturating_add(size_of_node(node)),
-        Frame::Return(_) => 1,
-    }
-}
-
-fn size_of_focus(focus: &Focus) -> u64
-    ensures { result ≡ min (focus_size focus.now) (2 ^ 64 - 1) }
-{
-    match focus {
-        Focus::Eval(_, node) | Focus::Returned(_, node) => size_of_node(node),
-    }
-}
-
-fn size_of_frames(frames: &[Frame]) -> u64
-    ensures { result ≡ min (frames_size frames.now) (2 ^ 64 - 1) }
-{
-    let mut total: u64 = 0;
-    for frame in frames {
-        total = total.saturating_add(size_of_frame(frame));
-    }
-    total
-}
-
-/// The frames, the node_count and the bytes of the texts, or the greatest number.
-pub fn size_of(thread: &Thread) -> u64
-    ensures { result ≡ min (thread_size thread.now) (2 ^ 64 - 1) }
-{
-    size_of_frames(thread.frames.as_slice()).saturating_add(size_of_focus(&thread.focus))
 }

@@ -1,12 +1,13 @@
 //! Worlds, types, primitives and operators.
 
-ghost use Rattle.std.specs.Prelude.{◌≡◌, IfOk};
+ghost use Rattle.std.specs.Prelude.{◌≡◌, ◌↔◌, IsTrue, IfOk};
 ghost use Rattle.m5_terms.specs.TypeExpression.{mobile, same_type, same_world};
 ghost use Rattle.m5_terms.specs.ShapeMeaning.{shape_meaning};
 
 use std::alloc::{AllocError, Global};
 use std::marker::Model;
 
+/// A world of a typing: one that has sites, or `Any` for what means the same at each of them.
 #[derive(Clone, Copy, Debug, PartialEq, Eq)]
 pub enum World {
     Home,
@@ -48,7 +49,7 @@ impl Model for Ty {
     ghost size_decreases = { λ a h. Prim.grind arith };
 }
 
-/// A ty on the heap, which contracts see as its type.
+/// A type on the heap, which contracts see as that type.
 #[cycle(ty)]
 #[derive(Drop)]
 pub struct TypeBox {
@@ -95,6 +96,8 @@ impl TypeBox {
     }
 }
 
+/// The outermost constructor of a type. `At` is a value held at a world, `Sham` one that is valid
+/// everywhere, `Addr` the address of a world.
 #[cycle(ty)]
 #[derive(Drop)]
 pub enum Shape {
@@ -112,6 +115,7 @@ pub enum Shape {
     Addr(World),
 }
 
+/// What an extern may name.
 #[derive(Clone, Copy, Debug, PartialEq, Eq)]
 pub enum Primitive {
     Say,
@@ -126,6 +130,8 @@ pub enum Primitive {
 /// antt has a module of this name, so the enum has a longer one.
 pub type Prim = Primitive;
 
+/// An operator on two integers, or for `Cat` and `EqStr` on two texts. `Add`, `Sub` and `Mul`
+/// wrap at 64 bits.
 #[derive(Clone, Copy, Debug, PartialEq, Eq)]
 pub enum Op {
     Add,
@@ -144,6 +150,7 @@ impl Ty {
         Ty { shape }
     }
 
+    /// The shape itself, without its type.
     pub fn into_shape(self) -> Shape
         ensures { shape_meaning result ≡ self }
     {
@@ -151,6 +158,7 @@ impl Ty {
         shape
     }
 
+    /// The same type again, in memory of its own.
     #[cycle(copy_ty)]
     pub fn copy(&self, alloc: Global) -> Result<Ty, AllocError>
         ensures { IfOk result (λ ty. ty ≡ self.now) }
@@ -179,6 +187,8 @@ fn kept(part: &TypeBox, alloc: Global) -> Result<TypeBox, AllocError>
     TypeBox::new(alloc, part.get().copy(alloc)?)
 }
 
+/// Whether a value of the type means the same at every world: base types, addresses, held and
+/// sham types, and products, sums and lists of mobile types.
 pub fn is_mobile(ty: &Ty) -> bool
     ensures { result ≡ mobile ty.now }
 {
@@ -191,8 +201,10 @@ pub fn is_mobile(ty: &Ty) -> bool
     }
 }
 
+/// Whether two worlds are one.
 pub fn is_same_world(a: World, b: World) -> bool
-    ensures { result ≡ same_world a b }
+    ensures value { result ≡ same_world a b }
+    ensures exact { IsTrue result ↔ (a ≡ b) }
 {
     match (a, b) {
         (World::Home, World::Home) | (World::Server, World::Server) | (World::Any, World::Any) =>
@@ -201,8 +213,10 @@ pub fn is_same_world(a: World, b: World) -> bool
     }
 }
 
+/// Whether two types are one, part by part.
 pub fn is_same(a: &Ty, b: &Ty) -> bool
-    ensures { result ≡ same_type a.now b.now }
+    ensures value { result ≡ same_type a.now b.now }
+    ensures exact { IsTrue result ↔ (a.now ≡ b.now) }
 {
     match (&a.shape, &b.shape) {
         (Shape::Unit, Shape::Unit)

@@ -1,4 +1,4 @@
-use Rattle.std.proofs.Common.{ℕ, ◌+◌, ◌*◌}
+use Rattle.std.proofs.Common.{◌+◌, ◌*◌}
 use Rattle.m5_terms.specs.Expression.{node_count}
 use Rattle.m5_terms.proofs.substitute.+substitute.Given as goal
 
