@@ -1,12 +1,14 @@
 //! The run of a program of the first form, which says texts one after the other.
 
-ghost use Rattle.std.specs.Prelude.{◌≡◌, IsSome, IfOk, OnOk};
+ghost use Rattle.std.specs.Prelude.{◌≡◌, IsSome, IfOk, IfSome, OnOk};
 ghost use Rattle.m5_cli.specs.Says.{text_of, number_text, says_of, no_texts};
 ghost use Rattle.m5_cli.specs.First.{program_of};
 ghost use Rattle.m5_network.specs.Scenario.{silent};
 ghost use Rattle.m5_network.specs.Claim.{IsRunOf};
 ghost use Rattle.m5_cli.specs.Walk.{texts_in, Appends, AppendsSayings};
+ghost use Rattle.m5_cli.specs.Due.{IsRunTrace};
 
+use m5_script::trace_text;
 use m5_terms::ask::{Act, End, Entries, Entry, History};
 use m5_terms::node::{Node, Term};
 use m5_terms::text::Text;
@@ -125,9 +127,10 @@ fn text_in(node: &Node, scope: &Scope<'_>, alloc: Global) -> Result<Text, AllocE
 }
 
 /// The history of the run of a program of the first form: what it says, and then rest.
-pub fn walk(alloc: Global, main: &Node) -> Result<History, AllocError>
+fn walk(alloc: Global, main: &Node) -> Result<History, AllocError>
     requires { IsSome (says_of no_texts main.now) }
-    ensures { IfOk result (λ h. IsRunOf (program_of main.now) silent h) }
+    ensures run { IfOk result (λ h. IsRunOf (program_of main.now) silent h) }
+    ensures rests { IfOk result (λ h. h.end ≡ End.Rest) }
 {
     let mut entries = Entries::make(alloc);
     append_sayings(main, &Scope::Empty, alloc, &mut entries)?;
@@ -135,4 +138,15 @@ pub fn walk(alloc: Global, main: &Node) -> Result<History, AllocError>
         entries,
         end: End::Rest,
     })
+}
+
+/// The trace of a program of the first form, or none where memory runs out.
+pub fn run(alloc: Global, main: &Node) -> Option<Text>
+    requires { IsSome (says_of no_texts main.now) }
+    ensures { IfSome result (λ text. IsRunTrace main.now text) }
+{
+    let Ok(history) = walk(alloc, main) else {
+        return None;
+    };
+    trace_text(alloc, &history).ok()
 }
