@@ -90,14 +90,14 @@ fn tokens_and_faults(rt: HostRuntime) -> Result<(), Fail> {
 
 #[test]
 fn each_byte_alone(rt: HostRuntime) -> Result<(), Fail> {
-    let mut blanks = 0;
-    let mut tokens = 0;
+    let mut blanks: u8 = 0;
+    let mut tokens: u8 = 0;
     for byte in 0..=255u8 {
         if let Ok(found) = lex(rt.alloc(), &[byte]) {
             if found.count() == 0 {
-                blanks += 1;
+                blanks = blanks.saturating_add(1);
             } else {
-                tokens += 1;
+                tokens = tokens.saturating_add(1);
             }
         }
     }
