@@ -1,5 +1,5 @@
 -- What a source and a sink in memory hold, as contracts see them.
-use Rattle.std.specs.Prelude.{◌≡◌, ℕ, ◌+◌, ◌-◌, ◌^◌, ◌≤◌, min, length, List, Contains, Bool}
+use Rattle.std.specs.Prelude.{ℕ, ◌+◌, ◌-◌, ◌^◌, min, List}
 
 -- the number of the call that follows so many calls, which stands still at the last number
 abbrev pub next_call : ℕ → ℕ

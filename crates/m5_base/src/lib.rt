@@ -6,3 +6,5 @@ pub mod gate;
 pub mod sink;
 pub mod source;
 pub mod standard;
+#[cfg(test)]
+mod tests;

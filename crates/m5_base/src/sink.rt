@@ -18,6 +18,7 @@ pub struct SinkFailed;
 /// and never falls.
 pub trait Sink {
     ghost held: { Self → Option (List ℕ) };
+
     ghost faults: { Self → ℕ };
 
     /// Takes the first bytes, at least one where there is one; a failure takes none.
@@ -47,12 +48,12 @@ impl Model for MemSink {
     ghost Value = { Store };
 
     ghost view = { λ s. record {
-        taken = s.taken.items;
-        room = s.room;
-        piece = s.piece;
-        fails = s.fails.items;
-        calls = s.calls;
-        faults = s.faults
+      taken = s.taken.items;
+      room = s.room;
+      piece = s.piece;
+      fails = s.fails.items;
+      calls = s.calls;
+      faults = s.faults;
     } };
 
     ghost invariant = { λ s. (vec_len s.taken ≤ s.room) × (s.room ≤ vec_capacity s.taken) × (0 < s.piece) };

@@ -18,6 +18,7 @@ pub struct SourceFailed;
 /// own failures and never falls.
 pub trait Source {
     ghost left: { Self → Option (List ℕ) };
+
     ghost faults: { Self → ℕ };
 
     /// Gives the next bytes, at most as many as fit; none for a slice with room is the end.
@@ -46,11 +47,11 @@ impl Model for MemSource {
     ghost Value = { Supply };
 
     ghost view = { λ s. record {
-        left = drop s.position s.bytes.items;
-        piece = s.piece;
-        fails = s.fails.items;
-        calls = s.calls;
-        faults = s.faults
+      left = drop s.position s.bytes.items;
+      piece = s.piece;
+      fails = s.fails.items;
+      calls = s.calls;
+      faults = s.faults;
     } };
 
     ghost invariant = { λ s. (s.position ≤ vec_len s.bytes) × (0 < s.piece) × (s.faults ≤ s.calls) };

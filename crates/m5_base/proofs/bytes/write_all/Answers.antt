@@ -1,4 +1,4 @@
-use Rattle.std.proofs.Common.{◌≡◌, ◌+◌, ◌-◌, ◌≤◌, ℕ, List, ◌++◌, length, take, drop, arith, subst, ap}
+use Rattle.std.proofs.Common.{length, arith, subst, ap}
 use Rattle.std.specs.Io.KnownBytes.{Appends}
 use Rattle.std.proofs.KnownBytes.{Appends-trans}
 use Rattle.std.proofs.lemmas.List.{length-drop}
@@ -12,7 +12,8 @@ loop-done-preserved g c =
     let n = c.in-Ok.count in
     let joined = Appends-trans _ _ _ _ _ c.loop-done.invariant.1 c.in-Ok.ensures.bytes in
     let left = length-drop d bytes in
-    let size = ap length (rest-is bytes d) in
-    ( omega (arith, c.in-Ok.ensures.bound, left, size)
-    , subst (Appends (g.K.Sink.held c.args.sink.now) (g.K.Sink.held c.write.new.self)) (take-piece bytes d n) joined
-    , omega (arith, c.in-Ok.ensures.cause.later, c.loop-done.invariant.2) )
+    let size = ap length (rest-is bytes d) in (
+      omega (arith, c.in-Ok.ensures.bound, left, size),
+      subst (Appends (g.K.Sink.held c.args.sink.now) (g.K.Sink.held c.write.new.self)) (take-piece bytes d n) joined,
+      omega (arith, c.in-Ok.ensures.cause.later, c.loop-done.invariant.2),
+    )
