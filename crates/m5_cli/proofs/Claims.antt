@@ -43,7 +43,7 @@ close-nothing (unary f a) = ap (λ env. unary f (close env a)) (none-left (unary
 close-nothing (binary f a b) = ap (λ env. binary f (close no_texts a) (close env b)) (none-left (binary_binders f)) ∙ (λ i. binary f (close-nothing a i) (close-nothing b i))
 close-nothing (ternary f a b c) =
     (λ i. ternary f (close no_texts a) (close (none-left (second_binders f) i) b) (close (none-left (third_binders f) i) c))
-      ∙ (λ i. ternary f (close-nothing a i) (close-nothing b i) (close-nothing c i))
+    ∙ (λ i. ternary f (close-nothing a i) (close-nothing b i) (close-nothing c i))
 
 -- ---- the run
 
@@ -71,7 +71,7 @@ step P N s before t s1 mid at does = record {
       steps = does.steps;
       waiting = does.waiting;
       comes = subst (λ x. Comes (site_next P Home) does.steps x does.waiting) (sym at.home) does.comes;
-      asking = does.asking
+      asking = does.asking;
     };
     session = refl;
     world = refl;
@@ -79,8 +79,8 @@ step P N s before t s1 mid at does = record {
     told = λ e. cc;
     site = with_threads s1 mid;
     resumed = does.resumed;
-    after = refl
-  }
+    after = refl;
+  };
 }
 
 abbrev Speaking : Program → Network → List (List ℕ) → List Thread → Type 0
@@ -107,9 +107,9 @@ home-rests P N s threads at p =
         steps = q.0;
         waiting = with_threads q.1 [];
         comes = subst (λ x. Comes (site_next P Home) q.0 x (with_threads q.1 [])) (sym at.home) q.2;
-        asking = refl
+        asking = refl;
       };
-      nothing_there = nothing-there N Home at.board refl
+      nothing_there = nothing-there N Home at.board refl;
     }
 
 server-rests : (P : Program) (N : Network) (s : Site) (threads : List Thread) → Stands N s threads → IsAtRest P N 1 Server
@@ -119,9 +119,9 @@ server-rests P N s threads at = record {
     steps = 0;
     waiting = opening_site [];
     comes = at.server;
-    asking = refl
+    asking = refl;
   };
-  nothing_there = nothing-there N Server at.board refl
+  nothing_there = nothing-there N Server at.board refl;
 }
 
 rests : (P : Program) (N : Network) (s : Site) (threads : List Thread) → Stands N s threads → Leads P Home s threads (ended [] Home [])
@@ -170,7 +170,7 @@ claim e ls says =
       shown = shown ls;
       finished = finished P all.0 all.1 all.2 all.4 all.5;
       worlds = at-home ls;
-      ended = ap ending (sym (no-stops ls))
+      ended = ap ending (sym (no-stops ls));
     }
 
 -- the same, of entries to which the walk appended

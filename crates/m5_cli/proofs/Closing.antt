@@ -63,7 +63,7 @@ swapped false false some other h = refl
 hidden : (x : ℕ) (t : List ℕ) (env : Texts) (bs : List ℕ) → among x bs ≡ true → without bs (without (x ∷ []) env) ≡ without bs (with_text x t env)
 hidden x t env bs h i y =
     (ap (λ c. if among y bs then None else (if c then None else env y)) (or-false (y == x))
-      ∙ covered (among y bs) (y == x) (Some t) (env y) (λ e. subst (λ z. among z bs ≡ true) (sym (eqb-true y x e)) h)) i
+    ∙ covered (among y bs) (y == x) (Some t) (env y) (λ e. subst (λ z. among z bs ≡ true) (sym (eqb-true y x e)) h)) i
 
 later-hidden : (x : ℕ) (env : Texts) (bs : List ℕ) → without bs (without (x ∷ []) env) ≡ without (x ∷ []) (without bs env)
 later-hidden x env bs i y = swapped-none (among y bs) (y == x || false) (env y) i
@@ -98,4 +98,4 @@ substituted-close (binary f a b) x t env =
     λ i. binary f (substituted-close a x t env i) (under x t env (binary_binders f) b (among x (binary_binders f)) refl (λ inner. substituted-close b x t inner) i)
 substituted-close (ternary f a b c) x t env =
     λ i. ternary f (substituted-close a x t env i) (under x t env (second_binders f) b (among x (second_binders f)) refl (λ inner. substituted-close b x t inner) i)
-        (under x t env (third_binders f) c (among x (third_binders f)) refl (λ inner. substituted-close c x t inner) i)
+    (under x t env (third_binders f) c (among x (third_binders f)) refl (λ inner. substituted-close c x t inner) i)

@@ -71,11 +71,12 @@ call-speaks P u a t text = λ s fs ts.
     after-steps P u s _ (eval (outer ∷ fs) u say_it ts) _ (t ∷ []) (one P u s _ _ 0 refl) (λ s1.
     after-steps P u s1 _ (thread_of (outer ∷ fs) (Returned u say_it) ∷ ts) _ (t ∷ []) (one P u s1 _ _ 0 refl) (λ s2.
     after-steps P u s2 _ (eval (inner ∷ fs) u a ts) _ (t ∷ []) (one P u s2 _ _ 0 refl) (λ s3.
-    after-steps P u s3 _ (back (inner ∷ fs) u t ts) _ (t ∷ []) (text s3 (inner ∷ fs) ts) (λ s4.
-    ( after_step P 0 s4
-    , ended fs u ts
-    , record { steps = 0; waiting = with_threads s4 (back (inner ∷ fs) u t ts); comes = refl; resume = _; asking = refl; resumed = refl; stopped = refl }
-    , (0, after_step P 0 s4, refl, refl) )))))
+    after-steps P u s3 _ (back (inner ∷ fs) u t ts) _ (t ∷ []) (text s3 (inner ∷ fs) ts) (λ s4. (
+      after_step P 0 s4,
+      ended fs u ts,
+      record { steps = 0; waiting = with_threads s4 (back (inner ∷ fs) u t ts); comes = refl; resume = _; asking = refl; resumed = refl; stopped = refl },
+      (0, after_step P 0 s4, refl, refl),
+    )))))
 
 said-speaks : (P : Program) (u : World) (env : Texts) (a b : Expression) (found : Option (List ℕ)) (ls : List (List ℕ))
     → ((t : List ℕ) → found ≡ Some t → Evaluates P u (close env b) t) → said a found ≡ Some ls → SpeaksIn P u (close env (binary binary_form.Call a b)) ls
@@ -109,7 +110,7 @@ val-speaks P u env x a b (Some t) ls text rest e = λ s fs ts.
     after-steps P u s _ (eval (frame ∷ fs) u (close env a) ts) _ ls (one P u s _ _ 0 refl) (λ s1.
     after-steps P u s1 _ (back (frame ∷ fs) u t ts) _ ls (text t refl s1 (frame ∷ fs) ts) (λ s2.
     after-steps P u s2 _ (eval fs u (close (with_text x t env) b) ts) _ ls
-        (subst (λ z. Leads P u s2 (back (frame ∷ fs) u t ts) (eval fs u z ts)) (substituted-close b x t env) (one P u s2 _ _ 0 refl)) (λ s3.
+    (subst (λ z. Leads P u s2 (back (frame ∷ fs) u t ts) (eval fs u z ts)) (substituted-close b x t env) (one P u s2 _ _ 0 refl)) (λ s3.
     rest (with_text x t env) ls e s3 fs ts)))
 
 binary-speaks : (P : Program) (u : World) (env : Texts) (f : BinaryForm) (a b : Expression) (ls : List (List ℕ))

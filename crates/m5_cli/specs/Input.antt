@@ -22,8 +22,8 @@ after_program front p = record { program = front ++ p.program; script = p.script
 abbrev pub parts_from : Bool → List ℕ → Parts
 parts_from at_start [] = record { program = []; script = [] }
 parts_from at_start (x ∷ rest) =
-  if at_start && nat_lt 0 (divider (x ∷ rest)) then record { program = []; script = drop (divider (x ∷ rest)) (x ∷ rest) }
-  else after_program (x ∷ []) (parts_from (x == 10) rest)
+    if at_start && nat_lt 0 (divider (x ∷ rest)) then record { program = []; script = drop (divider (x ∷ rest)) (x ∷ rest) }
+    else after_program (x ∷ []) (parts_from (x == 10) rest)
 
 abbrev pub parts_of : List ℕ → Parts
 parts_of input = parts_from true input

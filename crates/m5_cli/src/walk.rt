@@ -23,11 +23,7 @@ pub enum Scope<'a> {
 }
 
 /// Appends the text of a variable.
-fn append_variable(
-    variable: u32,
-    scope: &Scope<'_>,
-    text: &mut Vec<u8>,
-) -> Result<(), AllocError>
+fn append_variable(variable: u32, scope: &Scope<'_>, text: &mut Vec<u8>) -> Result<(), AllocError>
     requires { IsSome (texts_in scope.now variable) }
     ensures { OnOk result (Appends text.old.items text.new.items (texts_in scope.now variable)) }
 {
