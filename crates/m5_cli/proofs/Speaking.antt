@@ -2,8 +2,8 @@
 use Rattle.std.proofs.Common.{◌≡◌, ℕ, zero, suc, List, [], ◌∷◌, ◌++◌, Option, Some, None, refl, sym, ap, ◌∙◌, subst}
 use Rattle.std.specs.Option.{option_map}
 use Rattle.m5_terms.specs.Expression.{Expression, leaf, unary, binary, ternary}
-use Rattle.m5_terms.specs.Machine.{Next, goes, asks, wrong, Comes}
-use Rattle.m5_terms.specs.Asks.{Query, say, Reply, done}
+use Rattle.m5_meaning.specs.Machine.{Next, goes, asks, wrong, Comes}
+use Rattle.m5_meaning.specs.Asks.{Query, say, Reply, done}
 use Rattle.m5_terms.specs.declared.types.World.{World}
 use Rattle.m5_terms.specs.declared.types.Primitive.{Primitive}
 use Rattle.m5_terms.specs.declared.types.Primitive.TheVariants as primitive

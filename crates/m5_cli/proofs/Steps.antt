@@ -2,7 +2,7 @@
 use Rattle.std.proofs.Common.{◌≡◌, ℕ, zero, suc, ◌+◌, Bool, true, false, List, [], ◌∷◌, ◌++◌, length, Option, Some, None, refl, sym, ap, ◌∙◌, subst}
 use Rattle.std.specs.Fmt.{signed_decimal}
 use Rattle.m5_terms.specs.Expression.{Expression, leaf, unary, binary, ternary}
-use Rattle.m5_terms.specs.Machine.{Next, goes, asks, wrong, Comes}
+use Rattle.m5_meaning.specs.Machine.{Next, goes, asks, wrong, Comes}
 use Rattle.m5_terms.specs.declared.types.World.{World}
 use Rattle.m5_terms.specs.declared.types.Op.TheVariants as op
 use Rattle.m5_terms.specs.declared.form.LeafForm.{LeafForm}

@@ -1,5 +1,7 @@
-pub mod Parts
+pub mod Asks
+pub mod Machine
 pub mod Numbers
-pub mod Site
+pub mod Parts
 pub mod Reduction
+pub mod Site
 pub mod Step

@@ -21,7 +21,8 @@ use Rattle.m5_terms.specs.declared.form.BinaryForm.TheVariants as binary_form
 use Rattle.m5_terms.specs.declared.form.TernaryForm.{TernaryForm}
 use Rattle.m5_terms.specs.declared.form.TernaryForm.TheVariants as ternary_form
 use Rattle.m5_meaning.specs.Numbers.{wrapped, quotient}
-use Rattle.m5_meaning.specs.Site.{Function, Program}
+use Rattle.m5_typing.specs.declared.functions.Function.{Function}
+use Rattle.m5_meaning.specs.Site.{Program}
 
 -- a value, a text that is made, a term to go on with, a deed on a cell, a move to another world, or a primitive's ask
 pub data Reduced : Type 0 where

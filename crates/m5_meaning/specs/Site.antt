@@ -1,29 +1,15 @@
 -- Programs, threads and sites of the meaning by substitution.
-use Rattle.std.specs.Prelude.{ℕ, ◌+◌, max, Bool, List, [], ◌∷◌, sum_by}
+use Rattle.std.specs.Prelude.{ℕ, ◌+◌, Bool, List, sum_by}
 use Rattle.m5_terms.specs.Expression.{Expression}
-use Rattle.m5_terms.specs.Width.{width_of}
+use Rattle.m5_typing.specs.Program.{ProgramTerm}
 use Rattle.m5_terms.specs.Size.{frame_size, focus_size}
 use Rattle.m5_terms.specs.declared.types.World.{World}
 use Rattle.m5_terms.specs.declared.thread.Frame.{Frame}
 use Rattle.m5_terms.specs.declared.thread.Focus.{Focus}
 
--- a declared function: its parameter and its body
-pub record Function : Type 0 where
-  pub parameter : ℕ
-  pub body : Expression
-
 -- the declared functions, which terms name by their place, and the term that each home begins with
-pub record Program : Type 0 where
-  pub functions : List Function
-  pub main : Expression
-
--- the greatest width of a declaration; a function's parameter counts as a binder
-abbrev pub functions_width : List Function → ℕ
-functions_width [] = 0
-functions_width (f ∷ fs) = max (1 + width_of f.body) (functions_width fs)
-
-abbrev pub program_width : Program → ℕ
-program_width P = max (functions_width P.functions) (width_of P.main)
+abbrev pub Program : Type 0
+Program = ProgramTerm
 
 -- what waits for a value, the top frame first, and what is looked at
 pub record Thread : Type 0 where

@@ -2,8 +2,8 @@
 use Rattle.std.specs.Prelude.{ℕ, zero, suc, ◌+◌, Bool, true, false, nat_lt, nat_le, if◌then◌else◌, List, [], ◌∷◌, ◌++◌, length, sum_by, slice_get, slice_set, Option, Some, None}
 use Rattle.m5_terms.specs.Expression.{Expression, leaf, unary, binary}
 use Rattle.m5_terms.specs.TypeExpression as type
-use Rattle.m5_terms.specs.Machine.{Next, goes, asks, wrong}
-use Rattle.m5_terms.specs.Asks.{Query, say, set, get_text, on, read, write, watch, send, take, stop, Reply, done, found, missing, message, fired, event}
+use Rattle.m5_meaning.specs.Machine.{Next, goes, asks, wrong}
+use Rattle.m5_meaning.specs.Asks.{Query, say, set, get_text, on, read, write, watch, send, take, stop, Reply, done, found, missing, message, fired, event}
 use Rattle.m5_terms.specs.declared.types.World.{World}
 use Rattle.m5_terms.specs.declared.ask.Cause.{Cause}
 use Rattle.m5_terms.specs.declared.ask.Cause.TheVariants.{Table}
@@ -16,7 +16,8 @@ use Rattle.m5_terms.specs.declared.thread.Frame.TheVariants.{Part, Return}
 use Rattle.m5_terms.specs.declared.thread.Focus.{Focus}
 use Rattle.m5_terms.specs.declared.thread.Focus.TheVariants.{Eval, Returned}
 use Rattle.m5_meaning.specs.Parts.{parts, part, fill, inner_world}
-use Rattle.m5_meaning.specs.Site.{Program, program_width, Thread, thread_size, Site, Item, thread, raw}
+use Rattle.m5_typing.specs.Width.{program_width}
+use Rattle.m5_meaning.specs.Site.{Program, Thread, thread_size, Site, Item, thread, raw}
 use Rattle.m5_meaning.specs.Reduction.{Reduced, gives, makes_text, goes_on, makes_cell, loads, stores, leaves, says, sets, writes, gets, reads, handles, watches, reduced, unit_value, text_value, unit_or}
 use Rattle.m5_meaning.specs.Reduction as reduction
 
