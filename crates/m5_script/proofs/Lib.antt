@@ -1,0 +1,5 @@
+pub mod Lines
+pub mod Rules
+pub mod Scanning
+pub mod Steps
+pub mod Texts

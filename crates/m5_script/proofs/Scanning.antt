@@ -1,0 +1,95 @@
+-- What one more byte or word does to a field that is being read.
+use Rattle.std.proofs.Common.{◌≡◌, ◌≢◌, ℕ, zero, suc, ◌+◌, ◌≤◌, ◌<◌, Bool, true, false, not, List, [], ◌∷◌, ◌++◌, length, take, drop, get_or, Option, Some, None, refl, ap, sym, ◌∙◌, arith, inl, inr, add-one}
+use Rattle.std.specs.List.{slice_split, take_while, prefix_len, position_or_len}
+use Rattle.std.proofs.Math.Seq.{drop-cons}
+use Rattle.std.proofs.lemmas.List.{drop_all, take_all, drop-drop, length-drop}
+use Rattle.std.proofs.lemmas.List.Folds.{length-prefix_len}
+use Rattle.std.proofs.lemmas.List.Elements.{All-push}
+use Rattle.std.proofs.lemmas.List.Sums.{fails_before_first}
+use Rattle.std.proofs.lemmas.List.Splits.{slice_split_first, slice_split_none}
+use Rattle.m5_terms.specs.declared.types.World.TheVariants.{Any}
+use Rattle.m5_script.specs.declared.items.SiteName.{SiteName}
+use Rattle.m5_script.specs.Fields.{◌>>=◌, is_blank, is_solid, span, before_dot, number_of, world_of, site_of, sites_from}
+use Rattle.m5_script.specs.Line.{AreSites}
+
+pub one_at : (s : List ℕ) (i : ℕ) → i < length s → drop i s ≡ get_or s i 0 ∷ drop (i + 1) s
+one_at s i h = rw (add-one, drop-cons s i 0)
+
+pub two_at : (s : List ℕ) (i : ℕ) → i + 1 < length s → drop i s ≡ get_or s i 0 ∷ get_or s (i + 1) 0 ∷ drop (i + 2) s
+two_at s i h =
+    let near : i < length s = omega arith in
+    let two : i + 1 + 1 ≡ i + 2 = omega arith in
+    one_at s i near ∙ ap (λ (r : List ℕ). get_or s i 0 ∷ r) (one_at s (i + 1) h ∙ ap (λ (k : ℕ). get_or s (i + 1) 0 ∷ drop k s) two)
+
+pub last_at : (s : List ℕ) (i : ℕ) → i < length s → length s ≤ i + 1 → drop i s ≡ get_or s i 0 ∷ []
+last_at s i h k = one_at s i h ∙ ap (λ (r : List ℕ). get_or s i 0 ∷ r) (drop_all (i + 1) s k)
+
+-- ---- sites
+
+-- what fails at its second step fails
+abbrev no_site : ℕ → Option SiteName
+no_site session = None
+
+second_fails : (o : Option ℕ) → (o >>= no_site) ≡ None
+second_fails None = refl
+second_fails (Some n) = refl
+
+-- a word without a dot names no site
+pub no_dot : (word : List ℕ) → span before_dot word ≡ length word → site_of word ≡ None
+unfolding site_of
+no_dot word h =
+    let past : drop (span before_dot word + 1) word ≡ [] = drop_all (span before_dot word + 1) word (omega arith) in
+    rw past (second_fails (number_of (take (span before_dot word) word)))
+
+pub named : (sites : List SiteName) (word : List ℕ) (site : SiteName) (words : List (List ℕ)) → 0 < length word → site_of word ≡ Some site
+    → sites_from sites (word ∷ words) ≡ sites_from (sites ++ site ∷ []) words
+named sites [] site words some h = absurd (omega arith)
+named sites (byte ∷ bytes) site words some h = rw h refl
+
+pub misnamed : (sites : List SiteName) (word : List ℕ) (words : List (List ℕ)) → 0 < length word → site_of word ≡ None
+    → sites_from sites (word ∷ words) ≡ None
+misnamed sites [] words some h = absurd (omega arith)
+misnamed sites (byte ∷ bytes) words some h = rw h refl
+
+pub unnamed : (sites : List SiteName) (word : List ℕ) (words : List (List ℕ)) → length word ≡ 0
+    → sites_from sites (word ∷ words) ≡ sites_from sites words
+unnamed sites [] words h = refl
+unnamed sites (byte ∷ bytes) words h = absurd (omega arith)
+
+pub sites_push : (sites : List SiteName) (site : SiteName) → AreSites sites → site.world ≢ Any → AreSites (sites ++ site ∷ [])
+sites_push sites site h k = All-push (λ (s : SiteName). s.world ≢ Any) sites site h k
+
+-- ---- words
+
+pub split_more : (s : List ℕ) → span is_solid s < length s → slice_split is_blank s ≡ take (span is_solid s) s ∷ slice_split is_blank (drop (span is_solid s + 1) s)
+split_more s h =
+    let same : span is_solid s ≡ position_or_len is_blank s = length-prefix_len is_solid s in
+    let near : position_or_len is_blank s < length s = omega arith in
+    rw same (slice_split_first is_blank s 0 near)
+
+pub split_last : (s : List ℕ) → length s ≤ span is_solid s → slice_split is_blank s ≡ take (span is_solid s) s ∷ []
+split_last s h =
+    let same : span is_solid s ≡ position_or_len is_blank s = length-prefix_len is_solid s in
+    let none : slice_split is_blank s ≡ s ∷ [] = slice_split_none is_blank s (λ k d near. fails_before_first is_blank s k d (omega arith)) in
+    none ∙ ap (λ (w : List ℕ). w ∷ []) (sym (take_all (span is_solid s) s h))
+
+-- ---- the words of an order
+
+-- the last word was taken
+pub order_ends : (old new : List SiteName) (rest word after : List ℕ) (n : ℕ) → n ≡ span is_solid rest → word ≡ take n rest → after ≡ drop n rest → length after ≡ 0
+    → ((words : List (List ℕ)) → sites_from old (word ∷ words) ≡ sites_from new words) → sites_from old (slice_split is_blank rest) ≡ Some new
+order_ends old new rest word after n count is left none step =
+    let short : length rest ≤ span is_solid rest = omega (arith, length-drop n rest, ap length left) in
+    let here : word ≡ take (span is_solid rest) rest = is ∙ ap (λ (k : ℕ). take k rest) count in
+    ap (sites_from old) (split_last rest short ∙ ap (λ (w : List ℕ). w ∷ []) (sym here)) ∙ step []
+
+-- a word was taken, and more follow after a blank
+pub order_goes : (old new : List SiteName) (rest word after next : List ℕ) (n : ℕ) → n ≡ span is_solid rest → word ≡ take n rest → after ≡ drop n rest → length after ≢ 0
+    → next ≡ drop 1 after → ((words : List (List ℕ)) → sites_from old (word ∷ words) ≡ sites_from new words)
+    → sites_from old (slice_split is_blank rest) ≡ sites_from new (slice_split is_blank next)
+order_goes old new rest word after next n count is left some then step =
+    let near : span is_solid rest < length rest = omega (arith, length-drop n rest, ap length left) in
+    let here : word ≡ take (span is_solid rest) rest = is ∙ ap (λ (k : ℕ). take k rest) count in
+    let there : next ≡ drop (span is_solid rest + 1) rest = then ∙ ap (drop 1) left ∙ drop-drop 1 n rest ∙ ap (λ (k : ℕ). drop (k + 1) rest) count in
+    ap (sites_from old) (split_more rest near ∙ ap (λ (w : List ℕ). w ∷ slice_split is_blank (drop (span is_solid rest + 1) rest)) (sym here))
+    ∙ step (slice_split is_blank (drop (span is_solid rest + 1) rest)) ∙ ap (λ (r : List ℕ). sites_from new (slice_split is_blank r)) (sym there)
