@@ -2,11 +2,13 @@
 
 ghost use Rattle.std.specs.Prelude.{◌≡◌, ◌≤◌, ◌<◌, ◌∷◌, length, drop, IfOk, IfErr, OnOk, Ok};
 ghost use Rattle.std.specs.Str.Lines.{lines, strip_carriage_return};
+ghost use Rattle.m5_script.specs.Alone.{one_session, seen_after};
 ghost use Rattle.m5_script.specs.Fields.{span};
+ghost use Rattle.m5_script.specs.Line.{form_of};
 ghost use Rattle.m5_script.specs.Reading.{IsReading};
 ghost use Rattle.m5_script.specs.Script.{in_line, after_line, script_of, Ends, EndsLine};
 
-use crate::form::LineEnd;
+use crate::form::{Form, LineEnd};
 use crate::line::read_form;
 use crate::reading::{LineKind, Reading};
 use crate::script::Script;
@@ -115,6 +117,35 @@ pub fn read_script(alloc: Global, text: &[u8]) -> Result<Script, ScriptEnd>
         at += length;
     }
     Ok(reading.finish())
+}
+
+/// Whether a line makes the session's line seen, or none where it may not stand.
+fn seen_after_line(alloc: Global, seen: bool, line: &[u8]) -> Result<Option<bool>, AllocError>
+    ensures { IfOk result (λ after. after ≡ seen_after seen (form_of line.now)) }
+{
+    match read_form(alloc, line) {
+        Ok(Form::Skipped) => Ok(Some(seen)),
+        Ok(Form::Sessions(1)) if !seen => Ok(Some(true)),
+        Ok(_) | Err(LineEnd::Syntax) => Ok(None),
+        Err(LineEnd::Memory) => Err(AllocError),
+    }
+}
+
+/// Whether a text has no line but those that are skipped and at most one `sessions 1`.
+pub fn is_one_session(alloc: Global, text: &[u8]) -> Result<bool, AllocError>
+    ensures { IfOk result (λ answer. answer ≡ one_session text.now) }
+{
+    let mut seen = false;
+    let mut at: usize = 0;
+    while at < text.len() {
+        let (line, length) = first_line(text.split_at(at).1);
+        match seen_after_line(alloc, seen, line)? {
+            Some(after) => seen = after,
+            None => return Ok(false),
+        }
+        at += length;
+    }
+    Ok(true)
 }
 
 #[cfg(test)]
