@@ -38,8 +38,11 @@ pub struct SiteName {
 }
 
 pub type TextPairs = Listed<TextPair>;
+
 pub type PageEvents = Listed<PageEvent>;
+
 pub type RawItems = Listed<RawItem>;
+
 pub type Sites = Listed<SiteName>;
 
 impl TextPair {

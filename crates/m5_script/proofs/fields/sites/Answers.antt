@@ -14,7 +14,7 @@ loop-sites-preserved c =
     let some : eqb (length c.split_at.result.1.now) 0 ≡ false = cc in
     record {
       on =
-        sym (order_goes _ c.add_site.new.sites c.loop-sites.rest.now _ _ _ c.solids.result c.solids.ensures.count c.split_at.ensures.front c.split_at.ensures.back (eqb-false _ 0 some) c.split_at-in-loop-sites.ensures.back c.in_ok-add_site.ensures.ok)
-        ∙ c.loop-sites.invariant.on;
-      worlds = c.in_ok-add_site.ensures.worlds
+          sym (order_goes _ c.add_site.new.sites c.loop-sites.rest.now _ _ _ c.solids.result c.solids.ensures.count c.split_at.ensures.front c.split_at.ensures.back (eqb-false _ 0 some) c.split_at-in-loop-sites.ensures.back c.in_ok-add_site.ensures.ok)
+          ∙ c.loop-sites.invariant.on;
+      worlds = c.in_ok-add_site.ensures.worlds;
     }

@@ -7,7 +7,7 @@ use Rattle.m5_script.proofs.fields.sites.Given as goal
 abbrev pub invariant-loop-sites : goal.invariant-loop-sites
 invariant-loop-sites l = record {
   on : sites_from l.sites (slice_split is_blank l.rest) ≡ sites_from [] (slice_split is_blank l.bytes);
-  worlds : AreSites l.sites
+  worlds : AreSites l.sites;
 }
 
 abbrev pub decreases-loop-sites : goal.decreases-loop-sites
