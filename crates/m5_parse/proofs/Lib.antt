@@ -1,3 +1,0 @@
-mod FirstSaid
-pub mod FirstSays
-mod FirstWords

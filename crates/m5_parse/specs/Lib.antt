@@ -1,3 +1,0 @@
-pub mod FirstGrammar
-pub mod FirstMarks
-pub mod FirstSays
