@@ -85,7 +85,7 @@ fn shapes_at_the_limit(rt: HostRuntime) -> Result<(), Fail> {
         ),
         (b"main = (1", b",1", 7_999, b")", b"", "tree"),
         (b"main = (1", b",1", 130_000, b")", b"", "tree"),
-        (b"main = (1", b",1", 130_000, b"]", b"", "syntax 1:260010"),
+        (b"main = (1", b",1", 20_000, b"]", b"", "syntax 1:40010"),
         (b"main = 1 ", b"\n", 3, b"]", b"", "syntax 4:1"),
     ];
     for (front, open, count, middle, close, expected) in cases {
