@@ -1,5 +1,5 @@
 -- The declarations and the program that are made of the last values, and the values before them.
-use Rattle.std.specs.Prelude.{Option, Some, None, List, [], ◌∷◌, ◌++◌}
+use Rattle.std.specs.Prelude.{Option, Some, List, [], ◌∷◌, ◌++◌}
 use Rattle.m5_terms.specs.declared.types.World.TheVariants.{Any}
 use Rattle.m5_tree.specs.Values.{◌>>=◌, mark, name, world, written, expr, declared}
 use Rattle.m5_tree.specs.declared.value.Value.{Value}

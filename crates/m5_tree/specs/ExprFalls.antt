@@ -1,9 +1,9 @@
 -- Each part of an expression has fewer nodes than the expression.
-use Rattle.std.specs.Prelude.{ℕ, ◌+◌, ◌*◌, ◌≤◌, ◌<◌, max, List, [], ◌∷◌, length}
+use Rattle.std.specs.Prelude.{◌*◌, ◌≤◌, ◌<◌, max, List, [], ◌∷◌, length}
 use Rattle.std.proofs.Common.{arith}
 use denote.Param.Weighed.{most}
 use Rattle.m5_lex.specs.declared.place.Place.{Place}
-use Rattle.m5_tree.specs.Syntax.{Syntax, leaf, unary, binary, ternary, node_count}
+use Rattle.m5_tree.specs.Syntax.{Syntax, node_count}
 use Rattle.m5_tree.specs.Tuple.{pairs, tuple}
 use Rattle.m5_tree.specs.Meaning.{meaning, IsWide}
 use Rattle.m5_tree.specs.declared.expr.Part.{Part}

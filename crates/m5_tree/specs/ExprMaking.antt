@@ -1,5 +1,5 @@
 -- The expressions that are made of the last values, and the values before them.
-use Rattle.std.specs.Prelude.{Option, Some, None, List, [], ◌∷◌, ◌++◌}
+use Rattle.std.specs.Prelude.{Option, Some, List, [], ◌∷◌, ◌++◌}
 use Rattle.m5_tree.specs.Syntax.{leaf, unary, binary, ternary}
 use Rattle.m5_tree.specs.Tuple.{tuple}
 use Rattle.m5_tree.specs.Values.{◌>>=◌, mark, name, number, literal, written, expr, parts}

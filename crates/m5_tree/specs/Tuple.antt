@@ -1,9 +1,7 @@
 -- What the parts between brackets stand for.
-use Rattle.std.specs.Prelude.{ℕ, ◌+◌, ◌*◌, ◌≤◌, ◌<◌, List, [], ◌∷◌, length}
-use Rattle.std.proofs.Common.{arith}
-use denote.Param.Weighed.{most}
+use Rattle.std.specs.Prelude.{List, [], ◌∷◌}
 use Rattle.m5_lex.specs.declared.place.Place.{Place}
-use Rattle.m5_tree.specs.Syntax.{Syntax, leaf, binary, node_count}
+use Rattle.m5_tree.specs.Syntax.{Syntax, leaf, binary}
 use Rattle.m5_tree.specs.declared.form.LeafForm.TheVariants.{Unit as UnitForm}
 use Rattle.m5_tree.specs.declared.form.BinaryForm.TheVariants.{Pair}
 use Rattle.m5_tree.specs.declared.expr.Part.{Part}

@@ -1,5 +1,5 @@
 -- The last value of a list of values, the last one first, and the values before it.
-use Rattle.std.specs.Prelude.{ℕ, List, [], ◌∷◌, Option, Some, None}
+use Rattle.std.specs.Prelude.{ℕ, List, ◌∷◌, Option, Some, None}
 use Rattle.m5_lex.specs.declared.place.Place.{Place}
 use Rattle.m5_terms.specs.declared.types.World.{World}
 use Rattle.m5_tree.specs.TypeSyntax.{TypeSyntax}

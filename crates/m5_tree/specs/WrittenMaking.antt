@@ -1,5 +1,5 @@
 -- The types that are made of the last values, and the values before them.
-use Rattle.std.specs.Prelude.{Option, Some, None, List, [], ◌∷◌}
+use Rattle.std.specs.Prelude.{Option, Some, List}
 use Rattle.m5_tree.specs.TypeSyntax.{plain, wrapped, joined}
 use Rattle.m5_tree.specs.Values.{◌>>=◌, mark, world, written}
 use Rattle.m5_tree.specs.declared.form.TypePlain.TheVariants.{Addr}

@@ -1,4 +1,4 @@
-use Rattle.std.proofs.Common.{◌≡◌, sym, ◌∙◌}
+use Rattle.std.proofs.Common.{sym, ◌∙◌}
 use Rattle.std.specs.Str.{bytes_eq}
 use Rattle.m5_tree.proofs.Naming.{any_map, position_map, insert_map}
 use Rattle.m5_tree.proofs.names.Names.number.Goals as goal
