@@ -13,13 +13,13 @@ use Rattle.m5_terms.specs.declared.ask.Act.TheVariants as act
 use Rattle.m5_terms.specs.declared.ask.End.TheVariants as end
 use Rattle.m5_meaning.specs.Site.{Program, Thread, Site, Item}
 use Rattle.m5_meaning.specs.Step.{site_next}
-use Rattle.m5_network.specs.Scenario.{Scenario, silent}
+use Rattle.m5_script.specs.Scenario.{Scenario, silent}
 use Rattle.m5_network.specs.Board.{Board, answer_of}
 use Rattle.m5_network.specs.Entries.{Deed, entry_of}
 use Rattle.m5_network.specs.Run.{Network, with_site, IsSite, NextAsk, Answers, Step, Run, IsAtRest, IsFinished}
 use Rattle.m5_network.specs.Opening.{opening, opening_board, opening_site}
 use Rattle.m5_network.specs.Claim.{IsRunOf, has_seal, place_of, primitive_of, IsAtItsWorld, stop_count, ending}
-use Rattle.m5_cli.specs.Says.{Texts, no_texts, Sayings, says_of}
+use Rattle.m5_first.specs.FirstSays.{Texts, no_texts, Sayings, says_of}
 use Rattle.m5_cli.specs.First.{program_of, said_entry, history_of}
 use Rattle.m5_cli.specs.Walk.{AppendsSayings}
 use Rattle.m5_cli.proofs.Closing.{close, text_or, without}

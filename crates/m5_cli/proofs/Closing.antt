@@ -4,7 +4,7 @@ use Rattle.m5_terms.specs.Expression.{Expression, leaf, unary, binary, ternary}
 use Rattle.m5_terms.specs.Substitution.{substituted, substituted_leaf, unless, among, unary_binders, binary_binders, second_binders, third_binders}
 use Rattle.m5_terms.specs.declared.form.LeafForm.{LeafForm}
 use Rattle.m5_terms.specs.declared.form.LeafForm.TheVariants as leaf_form
-use Rattle.m5_cli.specs.Says.{Texts, with_text}
+use Rattle.m5_first.specs.FirstSays.{Texts, with_text}
 
 abbrev pub text_value : List ℕ → Expression
 text_value t = leaf (leaf_form.Str t)

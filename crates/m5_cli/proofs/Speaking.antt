@@ -17,7 +17,7 @@ use Rattle.m5_terms.specs.declared.thread.Focus.TheVariants.{Eval, Returned}
 use Rattle.m5_meaning.specs.Site.{Program, Thread, Site, Item}
 use Rattle.m5_meaning.specs.Reduction.{unit_value}
 use Rattle.m5_meaning.specs.Step.{site_next, thread_of}
-use Rattle.m5_cli.specs.Says.{Texts, with_text, text_of, both, Sayings, says_leaf, said, says_with, says_binary, says_of}
+use Rattle.m5_first.specs.FirstSays.{Texts, with_text, text_of, both, Sayings, says_leaf, said, says_with, says_binary, says_of}
 use Rattle.m5_cli.proofs.Closing.{close, text_value, without, substituted-close}
 use Rattle.m5_cli.proofs.Steps.{Leads, with_threads, after_step, comes-trans, one, and-then, eval, back}
 use Rattle.m5_cli.proofs.Texts.{Evaluates, evaluates}

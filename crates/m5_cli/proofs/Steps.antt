@@ -17,7 +17,7 @@ use Rattle.m5_terms.specs.declared.thread.Focus.{Focus}
 use Rattle.m5_terms.specs.declared.thread.Focus.TheVariants.{Eval, Returned}
 use Rattle.m5_meaning.specs.Site.{Program, Thread, Site}
 use Rattle.m5_meaning.specs.Step.{site_next, thread_of, step_weight}
-use Rattle.m5_cli.specs.Says.{Texts, text_of, leaf_text, unary_text, number_text, binary_text, both}
+use Rattle.m5_first.specs.FirstSays.{Texts, text_of, leaf_text, unary_text, number_text, binary_text, both}
 use Rattle.m5_cli.proofs.Closing.{close, text_value, text_or}
 
 abbrev pub with_threads : Site → List Thread → Site

@@ -12,7 +12,7 @@ use Rattle.m5_terms.specs.declared.form.BinaryForm.{BinaryForm}
 use Rattle.m5_terms.specs.declared.form.BinaryForm.TheVariants as binary_form
 use Rattle.m5_terms.specs.declared.thread.Frame.{Frame}
 use Rattle.m5_meaning.specs.Site.{Program, Thread, Site}
-use Rattle.m5_cli.specs.Says.{Texts, text_of, leaf_text, unary_text, number_text, binary_text, both}
+use Rattle.m5_first.specs.FirstSays.{Texts, text_of, leaf_text, unary_text, number_text, binary_text, both}
 use Rattle.m5_cli.proofs.Closing.{close, close_leaf, text_value, text_or, without}
 use Rattle.m5_cli.proofs.Steps.{Leads, eval, back, cat, literal, number, joined}
 

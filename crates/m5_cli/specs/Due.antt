@@ -5,9 +5,9 @@ use Rattle.std.specs.declared.option.Option.{Option}
 use Rattle.m5_terms.specs.Expression.{Expression}
 use Rattle.m5_terms.specs.declared.ask.History.{History}
 use Rattle.m5_terms.specs.declared.ask.End.TheVariants as end
-use Rattle.m5_network.specs.Scenario.{silent}
+use Rattle.m5_script.specs.Scenario.{silent}
 use Rattle.m5_network.specs.Claim.{IsRunOf}
-use Rattle.m5_parse.specs.FirstGrammar.{ReadsFirst}
+use Rattle.m5_first.specs.FirstGrammar.{ReadsFirst}
 use Rattle.m5_script.specs.Trace.{trace_of}
 use Rattle.m5_cli.specs.First.{program_of}
 use Rattle.m5_cli.specs.FirstScript.{IsFirstScript}

@@ -1,7 +1,7 @@
 -- What the walk knows of its variables, and what it appends.
 use Rattle.std.specs.Prelude.{◌≡◌, ℕ, List, ◌++◌, Option, Some, None, map}
 use Rattle.m5_terms.specs.declared.ask.Entry.{Entry}
-use Rattle.m5_cli.specs.Says.{Texts, no_texts, with_text}
+use Rattle.m5_first.specs.FirstSays.{Texts, no_texts, with_text}
 use Rattle.m5_cli.specs.First.{said_entry}
 use Rattle.m5_cli.specs.declared.walk.Scope.{Scope}
 use Rattle.m5_cli.specs.declared.walk.Scope.TheVariants as scope

@@ -5,7 +5,6 @@ ghost use Rattle.std.specs.Io.KnownBytes.{Keeps};
 ghost use Rattle.m5_base.specs.Causes.{Rose};
 ghost use Rattle.m5_terms.specs.Expression.{Expression};
 ghost use Rattle.m5_cli.specs.Due.{Due, Finishes, Leaves, IsFirst, IsTraceOf, IsUnbuilt, input_limit};
-ghost use Rattle.m5_cli.specs.FirstScript.{is_first_script as first_script};
 
 use crate::input::split;
 use crate::status::Status;
@@ -14,20 +13,14 @@ use crate::words::Job;
 use m5_base::bytes::{ReadEnd, read_all, write_all};
 use m5_base::sink::Sink;
 use m5_base::source::Source;
-use m5_parse::first::{FirstEnd, read_first};
+use m5_first::first::{FirstEnd, read_first};
+use m5_script::read::is_one_session;
 use m5_terms::node::Node;
 use m5_terms::text::Text;
 use std::alloc::Global;
 
 /// The most bytes that an input may have.
 const INPUT_LIMIT: u64 = 262_144;
-
-/// Whether a script text is empty or the one line `sessions 1`.
-fn is_first_script(script: &[u8]) -> bool
-    ensures { result ≡ first_script script.now }
-{
-    script.is_empty() || script == b"sessions 1".as_slice() || script == b"sessions 1\n".as_slice()
-}
 
 /// The term of an input whose program and script are of the first form.
 fn read_input(alloc: Global, input: &[u8]) -> Result<Node, FirstEnd>
@@ -36,10 +29,11 @@ fn read_input(alloc: Global, input: &[u8]) -> Result<Node, FirstEnd>
     ensures unbuilt { result ≡ Err FirstEnd.Unbuilt → (main : Expression) → IsFirst input.now main → ⊥ }
 {
     let (program, script) = split(input);
-    if !is_first_script(script) {
-        return Err(FirstEnd::Unbuilt);
+    match is_one_session(alloc, script) {
+        Ok(true) => read_first(alloc, program),
+        Ok(false) => Err(FirstEnd::Unbuilt),
+        Err(_) => Err(FirstEnd::Memory),
     }
-    read_first(alloc, program)
 }
 
 /// The trace of an input of the first form.

@@ -1,9 +1,9 @@
 //! The run of a program of the first form, which says texts one after the other.
 
 ghost use Rattle.std.specs.Prelude.{◌≡◌, IsSome, IfOk, IfSome, OnOk};
-ghost use Rattle.m5_cli.specs.Says.{text_of, number_text, says_of, no_texts};
+ghost use Rattle.m5_first.specs.FirstSays.{text_of, number_text, says_of, no_texts};
 ghost use Rattle.m5_cli.specs.First.{program_of};
-ghost use Rattle.m5_network.specs.Scenario.{silent};
+ghost use Rattle.m5_script.specs.Scenario.{silent};
 ghost use Rattle.m5_network.specs.Claim.{IsRunOf};
 ghost use Rattle.m5_cli.specs.Walk.{texts_in, Appends, AppendsSayings};
 ghost use Rattle.m5_cli.specs.Due.{IsRunTrace};

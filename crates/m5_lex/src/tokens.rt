@@ -56,6 +56,13 @@ impl Tokens {
         Ok(())
     }
 
+    /// The tokens in order, each with its place.
+    pub fn as_slice(&self) -> &[Placed]
+        ensures { result.now ≡ self.now.tokens }
+    {
+        self.held.as_slice()
+    }
+
     /// How many tokens there are.
     pub fn count(&self) -> u32
         ensures { result ≡ length self.now.tokens }

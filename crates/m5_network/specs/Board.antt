@@ -6,7 +6,7 @@ use Rattle.m5_terms.specs.TypeExpression.{same_world}
 use Rattle.m5_meaning.specs.Asks.{Query, say, set, get_text, on, read, write, watch, send, take, stop, Reply, done, found, missing, message, fired, event, nothing}
 use Rattle.m5_terms.specs.declared.types.World.{World}
 use Rattle.m5_terms.specs.declared.types.World.TheVariants.{Home, Server, Any}
-use Rattle.m5_network.specs.Scenario.{Pair}
+use Rattle.m5_script.specs.declared.items.TextPair.{TextPair}
 
 -- a watch of a key by a session's handler
 pub record Watch : Type 0 where
@@ -32,24 +32,24 @@ pub record Handling : Type 0 where
 
 -- what one session has: its page, its triggers, the events left, and a link from each of its worlds to each other one
 pub record Desk (Item : Type 0) : Type 0 where
-  pub texts : List Pair
+  pub texts : List TextPair
   pub handlers : List Handling
   pub triggers : List Trigger
   pub events : List Happening
   pub link : World → World → List Item
 
 pub record Board (Item : Type 0) : Type 0 where
-  pub pairs : List Pair
+  pub pairs : List TextPair
   pub watches : List Watch
   pub desks : ℕ → Desk Item
 
 -- the text of a key
-abbrev pub text_at : List Pair → List ℕ → Option (List ℕ)
+abbrev pub text_at : List TextPair → List ℕ → Option (List ℕ)
 text_at [] key = None
 text_at (p ∷ ps) key = if bytes_eq p.key key then Some p.text else text_at ps key
 
 -- the pair of a key is set, in its place or last
-abbrev pub set_at : List Pair → List ℕ → List ℕ → List Pair
+abbrev pub set_at : List TextPair → List ℕ → List ℕ → List TextPair
 set_at [] key text = record { key = key; text = text } ∷ []
 set_at (p ∷ ps) key text = if bytes_eq p.key key then record { key = key; text = text } ∷ ps else p ∷ set_at ps key text
 

@@ -14,7 +14,7 @@ use Rattle.m5_terms.specs.declared.ask.End.{End}
 use Rattle.m5_terms.specs.declared.ask.End.TheVariants as end
 use Rattle.m5_terms.specs.declared.ask.History.{History}
 use Rattle.m5_meaning.specs.Site.{Program, Item, thread, raw}
-use Rattle.m5_network.specs.Scenario.{Scenario}
+use Rattle.m5_script.specs.Scenario.{Scenario}
 use Rattle.m5_network.specs.Entries.{Deed, entry_of}
 use Rattle.m5_network.specs.Run.{Network, Place, Run, IsFinished}
 use Rattle.m5_network.specs.Opening.{opening}

@@ -1,4 +1,3 @@
-pub mod Scenario
 pub mod Board
 pub mod Entries
 pub mod Run

@@ -6,7 +6,9 @@ use Rattle.m5_terms.specs.declared.types.World.TheVariants.{Home, Server, Any}
 use Rattle.m5_terms.specs.declared.thread.Focus.TheVariants.{Eval}
 use Rattle.m5_meaning.specs.Site.{Program, Thread, Site, Item, raw}
 use Rattle.m5_meaning.specs.Step.{thread_of}
-use Rattle.m5_network.specs.Scenario.{Scenario, PageEvent, RawItem}
+use Rattle.m5_script.specs.Scenario.{Scenario}
+use Rattle.m5_script.specs.declared.items.PageEvent.{PageEvent}
+use Rattle.m5_script.specs.declared.items.RawItem.{RawItem}
 use Rattle.m5_network.specs.Board.{Board, Desk, Happening}
 use Rattle.m5_network.specs.Run.{Network}
 

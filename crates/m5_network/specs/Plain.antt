@@ -4,7 +4,8 @@ use Rattle.m5_terms.specs.Worlds.{site_worlds}
 use Rattle.m5_terms.specs.declared.types.World.{World}
 use Rattle.m5_terms.specs.declared.ask.Cause.{Cause}
 use Rattle.m5_meaning.specs.Site.{Program, Item}
-use Rattle.m5_network.specs.Scenario.{Scenario, SiteName}
+use Rattle.m5_script.specs.Scenario.{Scenario}
+use Rattle.m5_script.specs.declared.items.SiteName.{SiteName}
 use Rattle.m5_network.specs.Entries.{Deed}
 use Rattle.m5_network.specs.Run.{Network, Answers, Stops, IsAtRest}
 

@@ -8,7 +8,7 @@ use Rattle.m5_terms.specs.declared.ask.Cause.{Cause}
 use Rattle.m5_terms.specs.declared.ask.Cause.TheVariants.{Spent, Region, Table}
 use Rattle.m5_meaning.specs.Site.{Program, Site, Item}
 use Rattle.m5_meaning.specs.Step.{SiteNext, step_weight, site_next}
-use Rattle.m5_network.specs.Scenario.{Scenario}
+use Rattle.m5_script.specs.Scenario.{Scenario}
 use Rattle.m5_network.specs.Board.{Board, answer_of, at_session, at_world}
 use Rattle.m5_network.specs.Entries.{Deed}
 

@@ -1,5 +1,5 @@
 use Rattle.std.proofs.Common.{subst, sym, List, ℕ}
-use Rattle.m5_parse.specs.FirstGrammar.{ReadsFirst}
+use Rattle.m5_first.specs.FirstGrammar.{ReadsFirst}
 use Rattle.m5_cli.proofs.jobs.read_input.Goals as goal
 
 -- what the program text reads as, the input does

@@ -1,5 +1,5 @@
 use Rattle.std.proofs.Common.{◌≡◌, Err, ap, refl}
-use Rattle.m5_parse.specs.declared.first.FirstEnd.TheVariants.{Unbuilt}
+use Rattle.m5_first.specs.declared.first.FirstEnd.TheVariants.{Unbuilt}
 use Rattle.m5_cli.proofs.jobs.trace.Goals as goal
 
 -- no term, so the input is of another form
