@@ -38,7 +38,7 @@ opening_desk S s = record {
   handlers = [];
   triggers = [];
   events = map happening (filter (λ (e : PageEvent). e.session == s) S.events);
-  link = λ v w. raw_items s v w S.raws
+  link = λ v w. raw_items s v w S.raws;
 }
 
 abbrev pub opening_board : Scenario → Board Item
