@@ -1,0 +1,9 @@
+//! A ticket lock whose history is known: which entries the kept value's history has, and which pass made each.
+#![tactic(auto)]
+
+mod hall;
+mod kept;
+mod views;
+
+pub use hall::Hall;
+pub use kept::Kept;
