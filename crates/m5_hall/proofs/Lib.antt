@@ -1,3 +1,4 @@
 pub mod Sums
 pub mod Logs
 pub mod Moves
+pub mod Cuts

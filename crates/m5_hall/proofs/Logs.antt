@@ -2,12 +2,12 @@
 use Rattle.std.proofs.Common.{◌≡◌, ◌≢◌, ℕ, zero, suc, ◌+◌, ◌≤◌, ◌<◌, ◌==◌, eqb, List, [], ◌∷◌, ◌++◌, length, get_or, map, cond, Bool, true, false, refl, sym, ap, ◌∙◌, subst, arith, append_assoc, append-nil, eq-eqb, ne_eqb, length-append}
 use Rattle.std.specs.List.{All, filter, sum_by, count_by}
 use Rattle.std.proofs.lemmas.List.{map-append}
-use Rattle.std.proofs.lemmas.List.Elements.{filter-append, All-head, All-tail}
+use Rattle.std.proofs.lemmas.List.Elements.{filter-append, All-head, All-tail, All-nil, All-cons}
 use Rattle.std.proofs.lemmas.List.Sums.{get_or-le-sum_by, sum_by-cons}
 use mathlib.Core.List.{IsPrefix}
 use Rattle.m5_hall.specs.History.{entries, made_by, times}
 
-abbrev one_if : Bool → ℕ
+abbrev pub one_if : Bool → ℕ
 one_if b = cond b 1 0
 
 module _ {E : Type 0} where
@@ -67,3 +67,12 @@ module _ {E : Type 0} where
   once_there n own k d inside is =
       let one : one_if (eqb (get_or own k d).0 n) ≡ 1 = ap one_if (eq-eqb (get_or own k d).0 n is) in
       omega (arith, get_or-le-sum_by (λ (y : ℕ × List E). one_if (y.0 == n)) own k d inside, one)
+
+  pub first_there : (n : ℕ) (es : List E) (rest : List (ℕ × List E)) → times n ((n, es) ∷ rest) ≡ 1 + times n rest
+  first_there n es rest =
+      let one : one_if (eqb n n) ≡ 1 = ap one_if (eq-eqb n n refl) in
+      omega (arith, sum_by-cons (λ (y : ℕ × List E). one_if (y.0 == n)) (n, es) rest, one)
+
+  pub All-named : (m n : ℕ) (news : List E) → n < m → All (λ x. x.0 < m) (named n news)
+  All-named m n [] below = All-nil (λ (x : ℕ × E). x.0 < m)
+  All-named m n (e ∷ es) below = All-cons (λ (x : ℕ × E). x.0 < m) (n, e) (named n es) below (All-named m n es below)

@@ -3,7 +3,9 @@
 
 mod hall;
 mod kept;
+mod pass;
 mod views;
 
 pub use hall::Hall;
 pub use kept::Kept;
+pub use pass::Pass;

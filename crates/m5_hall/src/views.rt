@@ -38,3 +38,58 @@ impl<T: Kept> TableRule<Option<T>, View<T::Entry, T::Origin>, Snapshot<T>> for L
 
     ghost first = { λ key. first_view (T.origin key.value) };
 }
+
+/// A ticket is drawn.
+pub struct Draw;
+
+impl<T: Kept> Play<Option<T>, View<T::Entry, T::Origin>> for Draw {
+    ghost use Rattle.m5_hall.specs.Steps.{Drew};
+
+    ghost then = { Drew T.history T.origin };
+}
+
+/// The word that says which ticket is served is read. At the pass's own ticket it takes the slot.
+pub struct Look;
+
+impl<T: Kept> Play<Option<T>, View<T::Entry, T::Origin>> for Look {
+    ghost use Rattle.m5_hall.specs.Steps.{Looked};
+
+    ghost then = { Looked T.history T.origin };
+}
+
+/// The next ticket is served, and the history has one entry more.
+pub struct DoneWithOne;
+
+impl<T: Kept> Play<Option<T>, View<T::Entry, T::Origin>> for DoneWithOne {
+    ghost use Rattle.m5_hall.specs.Steps.{LeftOne};
+
+    ghost then = { LeftOne T.history T.origin };
+}
+
+/// The next ticket is served, and the history is as it was.
+pub struct DoneWithNone;
+
+impl<T: Kept> Play<Option<T>, View<T::Entry, T::Origin>> for DoneWithNone {
+    ghost use Rattle.m5_hall.specs.Steps.{LeftNone};
+
+    ghost then = { LeftNone T.history T.origin };
+}
+
+/// A pass is split off, or one is joined into another.
+pub struct Parting;
+
+impl<E, O> Split<View<E, O>> for Parting {
+    ghost use Rattle.m5_hall.specs.Steps.{split_left, split_right};
+
+    ghost left = { split_left };
+
+    ghost right = { split_right };
+}
+
+impl<E, O> Join<View<E, O>> for Parting {
+    ghost use Rattle.m5_hall.specs.Steps.{joined, spent};
+
+    ghost both = { joined };
+
+    ghost spent = { spent };
+}
