@@ -15,7 +15,7 @@ use Rattle.m5_hall.specs.declared.views.Stage.{Stage}
 use Rattle.m5_hall.specs.declared.views.Stage.TheVariants.{Resting, Waiting, Serving}
 use Rattle.m5_hall.specs.History.{entries, made_by, times}
 use Rattle.m5_hall.specs.Rule.{HasTicket, tickets, StageFits, Fits, IsHome, IsOut, HallRule}
-use Rattle.m5_hall.specs.Steps.{first_of, with_more, drawing, serving, resting, LooksAt, leaving, Drew, Looked, LeftOne, LeftNone}
+use Rattle.m5_hall.specs.Steps.{first_of, with_more, drawing, serving, resting, Serves, LooksAt, MayLeave, leaving, Drew, Looked, LeftOne, LeftNone}
 use Rattle.m5_hall.proofs.Sums.{sum_changes, term_below, two_below, sum_at_most}
 use Rattle.m5_hall.proofs.Logs.{named, length-named, All-named, first_there, prefix_more, entries_more, made_more, made_same, once_there}
 
@@ -90,6 +90,39 @@ module _ {V : Type 0} where
 
   pub same_there : (vs : List V) (i : ℕ) (a b : V) → get_elem? vs i ≡ some a → get_elem? vs i ≡ some b → a ≡ b
   same_there vs i a b ea eb = some-injective a b (sym ea ∙ eb)
+
+module _ {T E O : Type 0} (history : T → List E) (origin : T → O) where
+  abbrev Sat : Type 0
+  Sat = Me (Option T) (View E O)
+
+  -- what a look tells a pass whose ticket it finds
+  pub serves_then : (t found : ℕ) (m' was m : Sat) → was ≡ m → m.0.stage ≡ Waiting t → found ≡ t → LooksAt history origin was found m' was.0.stage → Serves history origin t m m'
+  serves_then t found m' was m same waits hit looked =
+      let now = subst (λ (z : Sat). LooksAt history origin z found m' z.0.stage) same looked in
+      let told = subst (LooksAt history origin m found m') waits now in
+      told.0 hit
+
+  -- the value that was taken is the one that the look told of
+  pub served_value : (t : ℕ) (m m' : Sat) (y : T) → m'.1 ≡ (0, Some y) ∷ [] → Serves history origin t m m' → All (λ seen. IsPrefix seen (history y)) m.0.seen
+  served_value t m m' y has s =
+      let same : s.0 ≡ y = some_in (sym (ap (λ (z : Sat). z.1) s.1) ∙ has) in
+      subst (λ (z : T). All (λ seen. IsPrefix seen (history z)) m.0.seen) same s.2
+    where
+      some_in : {x z : T} {cs ds : List (ℕ × Option T)} {k : ℕ} → (k, Some x) ∷ cs ≡ (k, Some z) ∷ ds → x ≡ z
+      some_in {x} {z} e = ap (λ (l : List (ℕ × Option T)). head_or x l) e
+        where
+          head_or : T → List (ℕ × Option T) → T
+          head_or d [] = d
+          head_or d (c ∷ cs) = value_or d c.1
+            where
+              value_or : T → Option T → T
+              value_or e None = e
+              value_or e (Some v) = v
+
+  -- a pass in its turn may leave
+  pub may_leave : (v : View E O) (h news : List E) (y : T) (m : Sat) (n : ℕ) → m ≡ (v, (0, Some y) ∷ []) → v.stage ≡ Serving n → v.seen ≡ h ∷ [] → 0 < length v.own → history y ≡ h ++ news → v.origin ≡ Some (origin y) → MayLeave history origin m y news
+  may_leave v h news y m n is serves saw owns grown begins = subst (λ (z : Sat). MayLeave history origin z y news) (sym is)
+      record { ticket = n; before = h; serves = serves; saw = saw; owns = owns; holds = refl; grown = grown; origin_is = begins }
 
 module _ {T E O : Type 0} (history : T → List E) (origin : T → O) (first : O) where
   abbrev S : Type 0
@@ -364,25 +397,29 @@ module _ {T E O : Type 0} (history : T → List E) (origin : T → O) (first : O
       subst (λ (z : List ℕ × Homes × View E O). Rule record { words = z.0; homes = z.1; views = set s.views id z.2 }) (λ i. (sym words i, sym homes i, is i))
           (left_rule s r id m.0 t n h es news rest y at serves saw owns grown few begins)
 
-  pub leaves_one : (slots id t n : ℕ) (m : M) (h es : List E) (e : E) (rest : List (ℕ × List E)) (y : T) → m.0.stage ≡ Serving t → m.0.seen ≡ h ∷ [] → m.0.own ≡ (n, es) ∷ rest
-      → m.1 ≡ (0, Some y) ∷ [] → history y ≡ h ++ e ∷ [] → m.0.origin ≡ Some (origin y) → Allows Rule slots id m 1 (λ k. (k + 1) % 2 ^ 64) (LeftOne history origin (step slots 1 1 0 none) m)
-  leaves_one slots id t n m h es e rest y serves saw owns holds grown begins s r deep at small =
-      let news : drop (length (first_of m.0.seen)) (history y) ≡ e ∷ [] = (λ i. drop (length (first_of (saw i))) (grown i)) ∙ drop-append_seam h (e ∷ []) in (
+  -- the first of the lists is the pass's own
+  first_own : (own : List (ℕ × List E)) → 0 < length own → (n : ℕ) × (es : List E) × (rest : List (ℕ × List E)) × (own ≡ (n, es) ∷ rest)
+  first_own [] more = absurd (omega arith)
+  first_own (x ∷ xs) more = (x.0, x.1, xs, refl)
+
+  pub leaves_one : (slots id : ℕ) (m : M) (y : T) (e : E) → MayLeave history origin m y (e ∷ []) → Allows Rule slots id m 1 (λ k. (k + 1) % 2 ^ 64) (LeftOne history origin (step slots 1 1 0 none) m)
+  leaves_one slots id m y e may s r deep at small =
+      let news : drop (length (first_of m.0.seen)) (history y) ≡ e ∷ [] = (λ i. drop (length (first_of (may.saw i))) (may.grown i)) ∙ drop-append_seam may.before (e ∷ []) in (
         resting (history y) (e ∷ []) m.0,
         gives,
         tt,
-        left_step s r id t n m h es (e ∷ []) rest y (resting (history y) (e ∷ []) m.0) at serves saw owns holds grown (omega arith) begins refl,
-        (λ i. (resting (history y) (sym news i) m.0, rest_of (holds i))) ∙ (λ i. (leaving history origin m.0 (sym holds i), [])),
+        (let own = first_own m.0.own may.owns in left_step s r id may.ticket own.0 m may.before own.1 (e ∷ []) own.2 y (resting (history y) (e ∷ []) m.0) at may.serves may.saw own.3 may.holds may.grown (omega arith) may.origin_is refl),
+        (λ i. (resting (history y) (sym news i) m.0, rest_of (may.holds i))) ∙ (λ i. (leaving history origin m.0 (sym may.holds i), [])),
       )
 
-  pub leaves_none : (slots id t n : ℕ) (m : M) (h es : List E) (rest : List (ℕ × List E)) (y : T) → m.0.stage ≡ Serving t → m.0.seen ≡ h ∷ [] → m.0.own ≡ (n, es) ∷ rest
-      → m.1 ≡ (0, Some y) ∷ [] → history y ≡ h → m.0.origin ≡ Some (origin y) → Allows Rule slots id m 1 (λ k. (k + 1) % 2 ^ 64) (LeftNone history origin (step slots 1 1 0 none) m)
-  leaves_none slots id t n m h es rest y serves saw owns holds same begins s r deep at small =
-      let seen : history y ∷ [] ≡ m.0.seen = ap (λ l. l ∷ []) same ∙ sym saw in
-      let own : with_more m.0.own [] ≡ m.0.own = ap (λ o. with_more o []) owns ∙ (ap (λ l. (n, l) ∷ rest) (append-nil es) ∙ sym owns) in (
+  pub leaves_none : (slots id : ℕ) (m : M) (y : T) → MayLeave history origin m y [] → Allows Rule slots id m 1 (λ k. (k + 1) % 2 ^ 64) (LeftNone history origin (step slots 1 1 0 none) m)
+  leaves_none slots id m y may s r deep at small =
+      let seen : history y ∷ [] ≡ m.0.seen = ap (λ l. l ∷ []) (may.grown ∙ append-nil may.before) ∙ sym may.saw in (
         record m.0 { stage = Resting },
         gives,
         tt,
-        left_step s r id t n m h es [] rest y (record m.0 { stage = Resting }) at serves saw owns holds (same ∙ sym (append-nil h)) (omega arith) begins (λ i. record m.0 { stage = Resting; seen = seen i; own = own i }),
-        (λ i. (record m.0 { stage = Resting }, rest_of (holds i))),
+        (let parts = first_own m.0.own may.owns in
+            let own : with_more m.0.own [] ≡ m.0.own = ap (λ o. with_more o []) parts.3 ∙ (ap (λ l. (parts.0, l) ∷ parts.2) (append-nil parts.1) ∙ sym parts.3) in
+            left_step s r id may.ticket parts.0 m may.before parts.1 [] parts.2 y (record m.0 { stage = Resting }) at may.serves may.saw parts.3 may.holds may.grown (omega arith) may.origin_is (λ i. record m.0 { stage = Resting; seen = seen i; own = own i })),
+        (λ i. (record m.0 { stage = Resting }, rest_of (may.holds i))),
       )

@@ -1,5 +1,5 @@
 -- What contracts see of a pass, a turn and the entries that a hall gives back.
-use Rattle.std.specs.Prelude.{◌≡◌, ℕ, ◌-◌, List, [], ◌∷◌, ◌++◌, map, length, Option, Some, All, Contains}
+use Rattle.std.specs.Prelude.{◌≡◌, ℕ, ◌+◌, ◌-◌, List, [], ◌∷◌, ◌++◌, map, length, Option, Some, All, Contains}
 use Rattle.atomic_table.specs.Seated.{TableId}
 use Rattle.m5_hall.specs.History.{entries, made_by, entry_count}
 use Rattle.m5_hall.specs.declared.views.View.{View}
@@ -38,3 +38,7 @@ module _ {E O : Type 0} where
   -- p with what q has seen and made
   abbrev pub joined_with : Known E O → Known E O → Known E O
   joined_with p q = record p { seen = p.seen ++ q.seen; own = p.own ++ q.own }
+
+  -- a pass in a turn: it has entered once more, and has seen this history
+  abbrev pub entering : Known E O → List E → Known E O
+  entering p history = record p { seen = history ∷ []; enters = p.enters + 1 }

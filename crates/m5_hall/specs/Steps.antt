@@ -1,5 +1,5 @@
 -- What each kind of step tells the pass that takes it.
-use Rattle.std.specs.Prelude.{◌≡◌, ◌≢◌, ℕ, ◌+◌, ◌-◌, List, [], ◌∷◌, ◌++◌, length, drop, Option, Some, None, All}
+use Rattle.std.specs.Prelude.{◌≡◌, ◌≢◌, ℕ, ◌+◌, ◌-◌, ◌<◌, List, [], ◌∷◌, ◌++◌, length, drop, Option, Some, None, All}
 use mathlib.Core.List.{IsPrefix}
 use Rattle.atomic_table.specs.Table.{Me, Step}
 use Rattle.m5_hall.specs.declared.views.View.{View}
@@ -48,13 +48,26 @@ module _ {T E O : Type 0} (history : T → List E) (origin : T → O) where
   abbrev Sat : Type 0
   Sat = Me (Option T) (View E O)
 
-  -- at its own number the pass takes the slot, and the history begins with all that it has seen
+  -- the pass has the slot with its value, whose history begins with all that the pass has seen
+  abbrev pub Serves : ℕ → Sat → Sat → Type 0
+  Serves t m m' = (x : T) × (m' ≡ (serving t (history x) m.0, (0, Some x) ∷ m.1)) × All (λ seen. IsPrefix seen (history x)) m.0.seen × ((o : O) → m.0.origin ≡ Some o → o ≡ origin x)
+
+  -- where its own ticket is found the pass is served, and else nothing has changed
   abbrev pub LooksAt : Sat → ℕ → Sat → Stage → Type 0
   LooksAt m found m' Resting = Unit {0}
   LooksAt m found m' (Serving t) = Unit {0}
-  LooksAt m found m' (Waiting t) =
-      (found ≡ t → (x : T) × (m' ≡ (serving t (history x) m.0, (0, Some x) ∷ m.1)) × All (λ seen. IsPrefix seen (history x)) m.0.seen × ((o : O) → m.0.origin ≡ Some o → o ≡ origin x))
-      × (found ≢ t → m' ≡ m)
+  LooksAt m found m' (Waiting t) = (found ≡ t → Serves t m m') × (found ≢ t → m' ≡ m)
+
+  -- the pass has the slot with y in it, whose history is the one at entry and these entries
+  pub record MayLeave (m : Sat) (y : T) (news : List E) : Type 0 where
+    pub ticket : ℕ
+    pub before : List E
+    pub serves : m.0.stage ≡ Serving ticket
+    pub saw : m.0.seen ≡ before ∷ []
+    pub owns : 0 < length m.0.own
+    pub holds : m.1 ≡ (0, Some y) ∷ []
+    pub grown : history y ≡ before ++ news
+    pub origin_is : m.0.origin ≡ Some (origin y)
 
   -- what the slot in hand holds is the history now, and what is new in it is the pass's own
   abbrev pub leaving : View E O → List (ℕ × Option T) → View E O

@@ -1,21 +1,25 @@
 //! The hall: the two words, the slot with the kept value, and the calls of its passes.
-ghost use Rattle.std.specs.Prelude.{◌≡◌, ◌<◌, [], IfOk};
-ghost use Rattle.m5_hall.specs.Passes.{first_pass, split_from, split_off, joined_with};
+ghost use Rattle.std.specs.Prelude.{◌≡◌, ◌<◌, ◌^◌, [], ◌∷◌, ◌++◌, true, false, Some, All, IfOk};
+ghost use mathlib.Core.List.{IsPrefix};
+ghost use Rattle.m5_hall.specs.Steps.{with_more};
+ghost use Rattle.m5_hall.specs.Passes.{first_pass, split_from, split_off, entering, joined_with};
 
 use crate::kept::Kept;
 use crate::pass::Pass;
+use crate::turn::Turn;
 use crate::views::{Law, Parting, View};
 use atomic_table::Table;
 use std::alloc::{AllocError, Global};
-use std::marker::Model;
+use std::marker::{Model, PhantomData};
 use std::snapshot::Snapshot;
+use std::sync::Wait;
 
 /// A ticket lock round one value. Contracts see which hall it is.
 ///
 /// The first word is the next ticket to draw, the second the ticket that is served, and the slot has the value.
 #[derive(Drop)]
 pub struct Hall<T: Kept> {
-    table: Table<Option<T>, View<T::Entry, T::Origin>, Snapshot<T>, Law<T>, Global>,
+    pub(crate) table: Table<Option<T>, View<T::Entry, T::Origin>, Snapshot<T>, Law<T>, Global>,
 }
 
 impl<T: Kept> Model for Hall<T> {
@@ -66,6 +70,72 @@ impl<T: Kept> Hall<T> {
             splits_left: 0,
             enters: 0,
             count: 0,
+        }
+    }
+
+    /// Waits until it is the pass's turn, and gives it the value. The value's history begins with all that the pass has seen.
+    pub fn enter<R: Wait>(&self, rt: &R, pass: Pass<T>) -> Turn<'_, T>
+        requires hall { pass.hall ≡ self.now }
+        requires few { pass.enters < 2 ^ 40 }
+        ensures seen { All (λ seen. IsPrefix seen (T.history result.value)) pass.seen }
+        ensures origin { pass.origin ≡ Some (T.origin result.value) }
+        ensures history { result.history ≡ T.history result.value }
+        ensures pass { result.pass ≡ entering pass (T.history result.value) }
+    {
+        let Pass {
+            mut seat,
+            splits_left,
+            enters,
+            count,
+        } = pass;
+        let ticket = self.draw(&mut seat);
+        self.wait(rt, &mut seat, ticket);
+        let value = self.take(&mut seat);
+        Turn {
+            value,
+            seat,
+            splits_left,
+            enters: enters + 1,
+            count,
+            hall: PhantomData,
+        }
+    }
+
+    /// Ends a turn. `added` says whether the value's history has one entry more than at its beginning.
+    pub fn leave(&self, turn: Turn<'_, T>, added: bool) -> Pass<T>
+        requires hall { turn.pass.hall ≡ self.now }
+        requires origin { turn.pass.origin ≡ Some (T.origin turn.value) }
+        requires one { added ≡ true → (e : T.Entry) × (T.history turn.value ≡ turn.history ++ e ∷ []) }
+        requires none { added ≡ false → T.history turn.value ≡ turn.history }
+        ensures seen { result.seen ≡ T.history turn.entry.value ∷ [] }
+        ensures one { added ≡ true → (e : T.Entry) → T.history turn.entry.value ≡ turn.entry.history ++ e ∷ [] → result.own ≡ with_more turn.entry.pass.own (e ∷ []) }
+        ensures none { added ≡ false → result.own ≡ turn.entry.pass.own }
+        ensures same { (result.hall ≡ turn.entry.pass.hall) × (result.origin ≡ turn.entry.pass.origin) × (result.enters ≡ turn.entry.pass.enters) × (result.splits_left ≡ turn.entry.pass.splits_left) }
+    {
+        let Turn {
+            value,
+            mut seat,
+            splits_left,
+            enters,
+            count,
+            hall: _,
+        } = turn;
+        self.give(&mut seat, value);
+        if added {
+            self.done_with_one(&mut seat);
+            return Pass {
+                seat,
+                splits_left,
+                enters,
+                count: count.wrapping_add(1),
+            };
+        }
+        self.done_with_none(&mut seat);
+        Pass {
+            seat,
+            splits_left,
+            enters,
+            count,
         }
     }
 

@@ -4,8 +4,11 @@
 mod hall;
 mod kept;
 mod pass;
+mod queue;
+mod turn;
 mod views;
 
 pub use hall::Hall;
 pub use kept::Kept;
 pub use pass::Pass;
+pub use turn::Turn;
