@@ -42,3 +42,7 @@ module _ {E O : Type 0} where
   -- a pass in a turn: it has entered once more, and has seen this history
   abbrev pub entering : Known E O → List E → Known E O
   entering p history = record p { seen = history ∷ []; enters = p.enters + 1 }
+
+-- the turn with another value
+abbrev pub with_value : {T E O : Type 0} → Entered T E O → T → Entered T E O
+with_value t w = record t { value = w }

@@ -1,4 +1,10 @@
 //! A turn: the value of a hall, for as long as one pass is served.
+ghost use Rattle.std.specs.Prelude.{◌≡◌, []};
+ghost use Rattle.std.specs.Borrow.{Lends, sem};
+ghost use mir.Syntax.{named};
+ghost use Rattle.m5_hall.specs.contracts.turn.Turn.{the_row};
+ghost use Rattle.m5_hall.specs.Passes.{with_value};
+
 use crate::kept::Kept;
 use crate::views::View;
 use atomic_table::Seat;
@@ -28,4 +34,14 @@ impl<'a, T: Kept> Model for Turn<'a, T> {
     ghost view = { λ t. record { value = t.value; history = first_of t.seat.me.0.seen; pass = known t.seat.table_id t.seat.me.0 } };
 
     ghost invariant = { λ t. (t.seat.me.1 ≡ (0, None) ∷ []) × ((n : ℕ) × (t.seat.me.0.stage ≡ Serving n)) × (t.seat.me.0.seen ≡ first_of t.seat.me.0.seen ∷ []) × (t.splits_left ≡ t.seat.me.0.splits_left) × (t.enters ≡ t.seat.me.0.enters) × (t.count ≡ entry_count t.seat.me.0.own % 2 ^ 64) × (0 < length t.seat.me.0.own) × IsSome t.seat.me.0.origin };
+}
+
+impl<'a, T: Kept> Turn<'a, T> {
+    /// The value.
+    pub fn value(&mut self) -> &mut T
+        ensures* writes_back { sem 𝓛 (Lends (the_row (record { mir = named 1; lft = [] }) T.row T.Entry.row T.Origin.row T.Kept) T.row self.entry result (with_value self.old)) }
+        ensures value { result.now ≡ self.old.value }
+    {
+        &mut self.value
+    }
 }
