@@ -101,6 +101,7 @@ module _ {T E O : Type 0} (history : T → List E) (origin : T → O) (first : O
               stage_is = mine.stage_is;
               seen_is = mine.seen_is;
               own_is = more_passes n r.log v.own mine.own_is;
+              ticket_owns = mine.ticket_owns;
               few_enters = mine.few_enters;
               splits_are = λ more. omega arith;
               origin_is = mine.origin_is;
@@ -109,6 +110,7 @@ module _ {T E O : Type 0} (history : T → List E) (origin : T → O) (first : O
               stage_is = f.stage_is;
               seen_is = f.seen_is;
               own_is = more_passes n r.log u.own f.own_is;
+              ticket_owns = f.ticket_owns;
               few_enters = f.few_enters;
               splits_are = λ more.
                   let theirs : n + u.splits_left ≡ 1048576 = f.splits_are more in
@@ -121,6 +123,7 @@ module _ {T E O : Type 0} (history : T → List E) (origin : T → O) (first : O
               stage_is = tt;
               seen_is = mine.seen_is;
               own_is = All-cons (λ (x : ℕ × List E). (made_by x.0 r.log ≡ x.1) × (x.0 < n + 1)) (1048576 - v.splits_left, []) [] (ap (λ k. made_by k r.log) number ∙ none_made n r.log r.numbers_made, omega arith) (All-nil (λ (x : ℕ × List E). (made_by x.0 r.log ≡ x.1) × (x.0 < n + 1)));
+              ticket_owns = omega arith;
               few_enters = omega arith;
               splits_are = λ more. absurd (omega arith);
               origin_is = mine.origin_is;
@@ -167,6 +170,7 @@ module _ {T E O : Type 0} (history : T → List E) (origin : T → O) (first : O
               stage_is = tt;
               seen_is = All-nil (λ l. IsPrefix l (entries r.log));
               own_is = All-nil own;
+              ticket_owns = omega arith;
               few_enters = omega arith;
               splits_are = λ more. absurd (omega arith);
               origin_is = λ o e. absurd (cc);
@@ -176,6 +180,7 @@ module _ {T E O : Type 0} (history : T → List E) (origin : T → O) (first : O
               stage_is = subst (StageFits r.served r.drawn (s.homes ≡ none ∷ []) (both.seen ≡ entries r.log ∷ [])) (sym v_rests) tt;
               seen_is = All-append (λ l. IsPrefix l (entries r.log)) v.seen w.seen mine.seen_is theirs.seen_is;
               own_is = All-append own v.own w.own mine.own_is theirs.own_is;
+              ticket_owns = let none_mine : tickets v.stage ≡ 0 = ap tickets v_rests in omega arith;
               few_enters = mine.few_enters;
               splits_are = mine.splits_are;
               origin_is = mine.origin_is;
@@ -207,6 +212,7 @@ module _ {T E O : Type 0} (history : T → List E) (origin : T → O) (first : O
       stage_is = tt;
       seen_is = All-cons (λ (l : List E). IsPrefix l []) [] [] ([], refl) (All-nil (λ (l : List E). IsPrefix l []));
       own_is = All-cons (λ (z : ℕ × List E). (made_by z.0 [] ≡ z.1) × (z.0 < 1)) (0, []) [] (refl, omega arith) (All-nil (λ (z : ℕ × List E). (made_by z.0 [] ≡ z.1) × (z.0 < 1)));
+      ticket_owns = omega arith;
       few_enters = omega arith;
       splits_are = λ _. refl;
       origin_is = λ o e. some_same e;

@@ -168,9 +168,9 @@ module _ {T E O : Type 0} (history : T → List E) (origin : T → O) (first : O
     ),
   )
 
-  drawn_rule : (s : S) (r : Rule s) (id : ℕ) (v : View E O) → get_elem? s.views id ≡ some v → v.stage ≡ Resting → v.enters < 1099511627776
+  drawn_rule : (s : S) (r : Rule s) (id : ℕ) (v : View E O) → get_elem? s.views id ≡ some v → v.stage ≡ Resting → v.enters < 1099511627776 → 0 < length v.own
       → Rule record { words = (r.drawn + 1) ∷ r.served ∷ []; homes = s.homes; views = set s.views id (drawing r.drawn v) }
-  drawn_rule s r id v at rests few =
+  drawn_rule s r id v at rests few owns =
       let w = drawing r.drawn v in
       let counted = sum_changes (λ (u : View E O). tickets u.stage) s.views id v w at in
       let none_yet : tickets v.stage ≡ 0 = ap tickets rests in
@@ -191,6 +191,7 @@ module _ {T E O : Type 0} (history : T → List E) (origin : T → O) (first : O
               stage_is = (omega arith, omega arith);
               seen_is = mine.seen_is;
               own_is = mine.own_is;
+              ticket_owns = omega arith;
               few_enters = omega arith;
               splits_are = mine.splits_are;
               origin_is = mine.origin_is;
@@ -199,6 +200,7 @@ module _ {T E O : Type 0} (history : T → List E) (origin : T → O) (first : O
               stage_is = stage_more r.served r.drawn (r.drawn + 1) (s.homes ≡ none ∷ []) (u.seen ≡ entries r.log ∷ []) u.stage (omega arith) f.stage_is;
               seen_is = f.seen_is;
               own_is = f.own_is;
+              ticket_owns = f.ticket_owns;
               few_enters = f.few_enters;
               splits_are = f.splits_are;
               origin_is = f.origin_is;
@@ -213,8 +215,8 @@ module _ {T E O : Type 0} (history : T → List E) (origin : T → O) (first : O
   small_mod : (n : ℕ) → n < 18446744073709551616 → n % 18446744073709551616 ≡ n
   small_mod n small = omega arith
 
-  pub draws : (slots id : ℕ) (m : M) → m.0.stage ≡ Resting → m.0.enters < 1099511627776 → Allows Rule slots id m 0 (λ n. (n + 1) % 2 ^ 64) (Drew history origin (step slots 0 1 0 none) m)
-  draws slots id m rests few s r deep at small =
+  pub draws : (slots id : ℕ) (m : M) → m.0.stage ≡ Resting → m.0.enters < 1099511627776 → 0 < length m.0.own → Allows Rule slots id m 0 (λ n. (n + 1) % 2 ^ 64) (Drew history origin (step slots 0 1 0 none) m)
+  draws slots id m rests few owns s r deep at small =
       let below = drawn_below s r in
       let found : get_or s.words 0 0 ≡ r.drawn = ap (λ ws. get_or ws 0 0) r.words_are in
       let words : set s.words 0 ((get_or s.words 0 0 + 1) % 18446744073709551616) ≡ (r.drawn + 1) ∷ r.served ∷ [] =
@@ -222,7 +224,7 @@ module _ {T E O : Type 0} (history : T → List E) (origin : T → O) (first : O
         drawing r.drawn m.0,
         keeps,
         tt,
-        subst (λ ws. Rule record { words = ws; homes = s.homes; views = set s.views id (drawing r.drawn m.0) }) (sym words) (drawn_rule s r id m.0 at rests few),
+        subst (λ ws. Rule record { words = ws; homes = s.homes; views = set s.views id (drawing r.drawn m.0) }) (sym words) (drawn_rule s r id m.0 at rests few owns),
         ap (λ n. (drawing n m.0, m.1)) (sym found),
       )
 
@@ -253,6 +255,7 @@ module _ {T E O : Type 0} (history : T → List E) (origin : T → O) (first : O
               stage_is = (now, omega arith, refl, ap (λ h. h ∷ []) hist);
               seen_is = All-cons (λ h. IsPrefix h (entries r.log)) (history x) [] ([], append-nil (history x) ∙ hist) (All-nil (λ h. IsPrefix h (entries r.log)));
               own_is = mine.own_is;
+              ticket_owns = let o = mine.ticket_owns in omega arith;
               few_enters = mine.few_enters;
               splits_are = mine.splits_are;
               origin_is = mine.origin_is;
@@ -261,6 +264,7 @@ module _ {T E O : Type 0} (history : T → List E) (origin : T → O) (first : O
               stage_is = stage_home r.served r.drawn (s.homes ≡ none ∷ []) (away ≡ none ∷ []) (u.seen ≡ entries r.log ∷ []) u.stage at_home f.stage_is;
               seen_is = f.seen_is;
               own_is = f.own_is;
+              ticket_owns = f.ticket_owns;
               few_enters = f.few_enters;
               splits_are = f.splits_are;
               origin_is = f.origin_is;
@@ -356,6 +360,7 @@ module _ {T E O : Type 0} (history : T → List E) (origin : T → O) (first : O
               stage_is = tt;
               seen_is = All-cons (λ l. IsPrefix l (entries log')) (history y) [] ([], append-nil (history y) ∙ new_whole) (All-nil (λ l. IsPrefix l (entries log')));
               own_is = subst (All (λ x. (made_by x.0 log' ≡ x.1) × (x.0 < length s.views))) (sym owned) (own_grows (length s.views) n r.log news es rest (mine_once n) own_here);
+              ticket_owns = omega arith;
               few_enters = mine.few_enters;
               splits_are = mine.splits_are;
               origin_is = mine.origin_is;
@@ -364,6 +369,7 @@ module _ {T E O : Type 0} (history : T → List E) (origin : T → O) (first : O
               stage_is = stage_next r.served r.drawn (s.homes ≡ none ∷ []) (back y ≡ none ∷ []) (u.seen ≡ entries r.log ∷ []) (u.seen ≡ entries log' ∷ []) u.stage (λ has. other (r.tickets_differ r.served j id u v e at has has_served)) f.stage_is;
               seen_is = All-weaker (λ l. IsPrefix l (entries r.log)) (λ l. IsPrefix l (entries log')) (λ l p. subst (IsPrefix l) (sym (entries_more r.log n news)) (prefix_more l (entries r.log) news p)) u.seen f.seen_is;
               own_is = own_stays (length s.views) n r.log news u.own (theirs_none j u other e) f.own_is;
+              ticket_owns = f.ticket_owns;
               few_enters = f.few_enters;
               splits_are = f.splits_are;
               origin_is = f.origin_is;

@@ -43,6 +43,10 @@ module _ {E O : Type 0} where
   abbrev pub entering : Known E O → List E → Known E O
   entering p history = record p { seen = history ∷ []; enters = p.enters + 1 }
 
+  -- each pass that was made in the hall has been joined into p
+  abbrev pub IsWhole : Known E O → Type 0
+  IsWhole p = length p.own + p.splits_left ≡ 1048576
+
 -- the turn with another value
 abbrev pub with_value : {T E O : Type 0} → Entered T E O → T → Entered T E O
 with_value t w = record t { value = w }

@@ -33,6 +33,7 @@ module _ {E O : Type 0} where
     pub stage_is : StageFits served drawn slot_is_out (v.seen ≡ entries log ∷ []) v.stage
     pub seen_is : All (λ seen. IsPrefix seen (entries log)) v.seen
     pub own_is : All (λ x. (made_by x.0 log ≡ x.1) × (x.0 < passes)) v.own
+    pub ticket_owns : tickets v.stage ≤ length v.own
     pub few_enters : v.enters ≤ 1099511627776
     pub splits_are : 0 < v.splits_left → passes + v.splits_left ≡ 1048576
     pub origin_is : (o : O) → v.origin ≡ Some o → o ≡ first

@@ -1,10 +1,12 @@
 //! The hall: the two words, the slot with the kept value, and the calls of its passes.
-ghost use Rattle.std.specs.Prelude.{◌≡◌, ◌<◌, ◌^◌, [], ◌∷◌, ◌++◌, true, false, Some, All, IfOk};
+ghost use Rattle.std.specs.Prelude.{◌≡◌, ◌<◌, ◌^◌, [], ◌∷◌, ◌++◌, true, false, length, Some, All, IfOk, IfErr};
+ghost use Rattle.m5_hall.specs.History.{entry_count, HasOwn};
 ghost use mathlib.Core.List.{IsPrefix};
 ghost use Rattle.m5_hall.specs.Steps.{with_more};
-ghost use Rattle.m5_hall.specs.Passes.{first_pass, split_from, split_off, entering, joined_with};
+ghost use Rattle.m5_hall.specs.Passes.{first_pass, split_from, split_off, entering, joined_with, IsWhole};
 
 use crate::kept::Kept;
+use crate::mine::{Drawn, Mine};
 use crate::pass::Pass;
 use crate::turn::Turn;
 use crate::views::{Law, Parting, View};
@@ -153,5 +155,37 @@ impl<T: Kept> Hall<T> {
         } = from;
         self.table.shared.join_seat::<Parting>(&mut into.seat, seat);
         into.count = into.count.wrapping_add(count);
+    }
+
+    /// Ends the hall, and gives its value back with the entries of the passes that were joined.
+    ///
+    /// `Drawn` comes where the two words differ, which means that some turn was not left. Then the value is dropped.
+    pub fn close(self, pass: Pass<T>) -> Result<(T, Mine<T>), Drawn>
+        requires { pass.hall ≡ self }
+        ensures seen { IfOk result (λ r. All (λ seen. IsPrefix seen (T.history r.0)) pass.seen) }
+        ensures origin { IfOk result (λ r. pass.origin ≡ Some (T.origin r.0)) }
+        ensures mine { IfOk result (λ r. r.1 ≡ pass.own) }
+        ensures own { IfOk result (λ r. HasOwn (T.history r.0) pass.own) }
+        ensures whole { IfOk result (λ r. IsWhole pass → entry_count pass.own ≡ length (T.history r.0)) }
+        ensures drawn { IfErr result (λ d. (d.served < d.drawn) × (IsWhole pass → ⊥)) }
+    {
+        let known = Snapshot::of(&pass);
+        let Hall { table } = self;
+        let Pass {
+            seat,
+            splits_left: _,
+            enters: _,
+            count,
+        } = pass;
+        let mut closed = table.close_with(seat);
+        let drawn = closed.word(0);
+        let served = closed.word(1);
+        let slot = closed.take(0);
+        closed.free();
+        if drawn != served {
+            return Err(Drawn { drawn, served });
+        }
+        let Some(value) = slot else { unreachable!() };
+        Ok((value, Mine { count, pass: known }))
     }
 }

@@ -3,6 +3,7 @@
 
 mod hall;
 mod kept;
+mod mine;
 mod pass;
 mod queue;
 mod turn;
@@ -10,5 +11,6 @@ mod views;
 
 pub use hall::Hall;
 pub use kept::Kept;
+pub use mine::{Drawn, Mine};
 pub use pass::Pass;
 pub use turn::Turn;

@@ -1,5 +1,5 @@
 //! The steps of one pass through the queue, on its seat at the hall's table.
-ghost use Rattle.std.specs.Prelude.{◌≡◌, ◌<◌, ◌^◌, ℕ, [], ◌∷◌, Some, None};
+ghost use Rattle.std.specs.Prelude.{◌≡◌, ◌<◌, ◌^◌, ℕ, [], ◌∷◌, length, Some, None};
 ghost use Rattle.m5_hall.specs.Steps.{drawing, Serves, MayLeave, leaving};
 ghost use Rattle.m5_hall.specs.declared.views.Stage.TheVariants.{Resting, Waiting};
 
@@ -23,6 +23,7 @@ impl<T: Kept> Hall<T> {
         requires hall { seat.old.table_id ≡ self.now }
         requires rests { seat.old.me.0.stage ≡ Resting }
         requires few { seat.old.me.0.enters < 2 ^ 40 }
+        requires owns { 0 < length seat.old.me.0.own }
         ensures hall { seat.new.table_id ≡ seat.old.table_id }
         ensures drawn { seat.new.me ≡ (drawing result seat.old.me.0, seat.old.me.1) }
     {
