@@ -1,0 +1,126 @@
+//! Numbers that several threads add to one list.
+ghost use Rattle.std.specs.Prelude.{◌≡◌, ◌+◌, ◌<◌, ◌^◌, ◌∷◌, ◌++◌, [], IfOk, MatchBool};
+
+use super::*;
+use std::alloc::{AllocError, Global};
+use std::snapshot::Snapshot;
+use std::sync::Wait;
+use std::test::Fail;
+use std::thread;
+use std::thread::{Promise, Threads};
+
+#[derive(Drop)]
+struct Numbers {
+    items: Vec<u32>,
+}
+
+impl Kept for Numbers {
+    type Entry = u32;
+    type Origin = ();
+
+    ghost origin = { λ n. tt };
+
+    ghost history = { λ n. n.items.items };
+}
+
+impl Numbers {
+    // Whether there was room for it.
+    fn add(&mut self, number: u32) -> bool
+        ensures { MatchBool result (self.new.items.items ≡ self.old.items.items ++ number ∷ []) (self.new.items.items ≡ self.old.items.items) }
+    {
+        self.items.push(number).is_ok()
+    }
+}
+
+// The pass that comes back is of this hall.
+#[derive(Drop)]
+struct InHall(Snapshot<Hall<Numbers>>);
+
+impl Promise<Pass<Numbers>> for InHall {
+    ghost kept_by = { λ p r. r.hall ≡ p.0.value };
+}
+
+fn empty(alloc: Global) -> Numbers
+    ensures { result.items.items ≡ [] }
+{
+    Numbers {
+        items: Vec::new(alloc),
+    }
+}
+
+fn add_once<R: Wait>(
+    rt: &R,
+    hall: &Hall<Numbers>,
+    pass: Pass<Numbers>,
+    number: u32,
+) -> Pass<Numbers>
+    requires hall { pass.hall ≡ hall.now }
+    requires few { pass.enters < 2 ^ 40 }
+    ensures hall { result.hall ≡ hall.now }
+    ensures enters { result.enters ≡ pass.enters + 1 }
+{
+    let mut turn = hall.enter(rt, pass);
+    let added = turn.value().add(number);
+    hall.leave(turn, added)
+}
+
+fn add_often<R: Wait>(
+    rt: &R,
+    hall: &Hall<Numbers>,
+    mut pass: Pass<Numbers>,
+    number: u32,
+    times: u32,
+) -> Pass<Numbers>
+    requires hall { pass.hall ≡ hall.now }
+    requires few { pass.enters ≡ 0 }
+    ensures { result.hall ≡ hall.now }
+{
+    for done in 0..times {
+        pass = add_once(rt, hall, pass, number);
+    }
+    pass
+}
+
+// Two threads of one scope add their numbers.
+fn add_both<R: Threads + Wait + Sync>(
+    rt: &R,
+    hall: &Hall<Numbers>,
+    first: Pass<Numbers>,
+    second: Pass<Numbers>,
+    times: u32,
+) -> Result<(Pass<Numbers>, Pass<Numbers>), AllocError>
+    requires hall { (first.hall ≡ hall.now) × (second.hall ≡ hall.now) }
+    requires enters { (first.enters ≡ 0) × (second.enters ≡ 0) }
+    ensures { IfOk result (λ r. (r.0.hall ≡ hall.now) × (r.1.hall ≡ hall.now)) }
+{
+    thread::scope(
+        thread::scope_env(),
+        rt,
+        |scope| -> Result<(Pass<Numbers>, Pass<Numbers>), AllocError>
+            requires { (first.hall ≡ hall.now) × (second.hall ≡ hall.now) × (first.enters ≡ 0) × (second.enters ≡ 0) }
+            ensures { IfOk result (λ r. (r.0.hall ≡ hall.entry.now) × (r.1.hall ≡ hall.entry.now)) }
+        {
+            let one = scope.spawn_with(InHall(Snapshot::of(hall)), move || {
+                add_often(rt, hall, first, 1, times)
+            })?;
+            let two = scope.spawn_with(InHall(Snapshot::of(hall)), move || {
+                add_often(rt, hall, second, 2, times)
+            })?;
+            Ok((one.join(rt), two.join(rt)))
+        },
+    )
+}
+
+#[test]
+fn two_threads_add_a_thousand_each(rt: HostRuntime) -> Result<(), Fail> {
+    let (hall, mut first) = Hall::make(rt.alloc(), empty(rt.alloc()))?;
+    let second = hall.split(&mut first);
+    let (mut first, second) = add_both(&rt, &hall, first, second, 1000)?;
+    hall.join(&mut first, second);
+    let (numbers, mine) = hall.close(first)?;
+    assert_eq!(rt; numbers.items.len(), 2000);
+    assert_eq!(rt; mine.count(), 2000);
+    let ones = numbers.items.iter().filter(|n| **n == 1).count();
+    assert_eq!(rt; ones, 1000);
+    Ok(())
+}
