@@ -1,5 +1,5 @@
 //! Numbers that several threads add to one list.
-ghost use Rattle.std.specs.Prelude.{◌≡◌, ◌+◌, ◌<◌, ◌^◌, ◌∷◌, ◌++◌, [], IfOk, MatchBool};
+ghost use Rattle.std.specs.Prelude.{◌≡◌, ◌+◌, ◌<◌, ◌≤◌, ◌^◌, ◌∷◌, ◌++◌, [], All, IfOk, MatchBool};
 
 use super::*;
 use std::alloc::{AllocError, Global};
@@ -122,5 +122,61 @@ fn two_threads_add_a_thousand_each(rt: HostRuntime) -> Result<(), Fail> {
     assert_eq!(rt; mine.count(), 2000);
     let ones = numbers.items.iter().filter(|n| **n == 1).count();
     assert_eq!(rt; ones, 1000);
+    Ok(())
+}
+
+// Splits off so many passes.
+fn split_off(
+    alloc: Global,
+    hall: &Hall<Numbers>,
+    first: &mut Pass<Numbers>,
+    count: u32,
+) -> Result<Vec<Pass<Numbers>>, AllocError>
+    requires hall { first.old.hall ≡ hall.now }
+    requires left { count ≤ first.old.splits_left }
+    ensures hall { first.new.hall ≡ hall.now }
+    ensures passes { IfOk result (λ v. All (λ p. (p.hall ≡ hall.now) × (p.enters ≡ 0)) v.items) }
+{
+    let mut passes = Vec::new(alloc);
+    for made in 0..count {
+        passes.push(hall.split(first))?;
+    }
+    Ok(passes)
+}
+
+// Each pass adds its number in a thread of its own.
+fn add_all<R: Threads + Wait + Sync>(
+    rt: &R,
+    hall: &Hall<Numbers>,
+    passes: Vec<Pass<Numbers>>,
+    times: u32,
+) -> Result<Vec<Pass<Numbers>>, AllocError>
+    requires { All (λ p. (p.hall ≡ hall.now) × (p.enters ≡ 0)) passes.items }
+    ensures { IfOk result (λ v. All (λ p. p.hall ≡ hall.now) v.items) }
+{
+    thread::map_vec(rt, passes, &|pass| add_often(rt, hall, pass, 1, times))
+}
+
+// Joins all passes into one.
+fn join_all(hall: &Hall<Numbers>, mut into: Pass<Numbers>, passes: Vec<Pass<Numbers>>) -> Pass<Numbers>
+    requires hall { into.hall ≡ hall.now }
+    requires passes { All (λ p. p.hall ≡ hall.now) passes.items }
+    ensures { result.hall ≡ hall.now }
+{
+    for pass in passes {
+        hall.join(&mut into, pass);
+    }
+    into
+}
+
+#[test]
+fn sixteen_threads_add(rt: HostRuntime) -> Result<(), Fail> {
+    let (hall, mut first) = Hall::make(rt.alloc(), empty(rt.alloc()))?;
+    let passes = split_off(rt.alloc(), &hall, &mut first, 16)?;
+    let passes = add_all(&rt, &hall, passes, 200)?;
+    let last = join_all(&hall, first, passes);
+    let (numbers, mine) = hall.close(last)?;
+    assert_eq!(rt; numbers.items.len(), 3200);
+    assert_eq!(rt; mine.count(), 3200);
     Ok(())
 }
