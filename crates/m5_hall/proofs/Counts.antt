@@ -1,11 +1,11 @@
 -- How many entries lists of own entries have, beside a whole history.
-use Rattle.std.proofs.Common.{◌≡◌, ◌≢◌, ℕ, zero, suc, ◌+◌, ◌≤◌, ◌<◌, ◌==◌, eqb, Bool, true, false, cond, List, [], ◌∷◌, length, get_or, map, refl, sym, ap, ◌∙◌, subst, arith, eq-eqb, eqb-true, ne_eqb}
+use Rattle.std.proofs.Common.{◌≡◌, ◌≢◌, ℕ, zero, suc, ◌+◌, ◌≤◌, ◌<◌, ◌==◌, eqb, Bool, cond, List, [], ◌∷◌, length, map, refl, sym, ap, ◌∙◌, subst, arith, eq-eqb, ne_eqb}
 use Rattle.std.specs.List.{All, Contains, filter, sum_by}
 use Rattle.std.proofs.lemmas.List.Elements.{All-head, All-tail, All-nil, All-cons}
 use Rattle.std.proofs.lemmas.List.Sums.{sum_by-cons}
 use mathlib.Core.Logic.{dite}
 use native.Mathlib.Decide.{ℕ_discrete}
-use Rattle.m5_hall.specs.History.{entries, made_by, times, entry_count}
+use Rattle.m5_hall.specs.History.{made_by, times, entry_count}
 use Rattle.m5_hall.proofs.Logs.{one_if}
 
 module _ {E : Type 0} where
@@ -26,13 +26,13 @@ module _ {E : Type 0} where
   one_more : (n : ℕ) (e : ℕ × E) (log : List (ℕ × E)) → length (made_by n (e ∷ log)) ≡ one_if (eqb n e.0) + length (made_by n log)
   one_more n e log = dite (ℕ_discrete e.0 n)
       (λ (same : e.0 ≡ n).
-          let a : length (made_by n (e ∷ log)) ≡ suc (length (made_by n log)) = ap (λ (b : Bool). length (map (λ (x : ℕ × E). x.1) (cond b (e ∷ filter (λ x. x.0 == n) log) (filter (λ x. x.0 == n) log)))) (eq-eqb e.0 n same) in
-          let b : one_if (eqb n e.0) ≡ 1 = ap one_if (eq-eqb n e.0 (sym same)) in
-          omega arith)
+      let a : length (made_by n (e ∷ log)) ≡ suc (length (made_by n log)) = ap (λ (b : Bool). length (map (λ (x : ℕ × E). x.1) (cond b (e ∷ filter (λ x. x.0 == n) log) (filter (λ x. x.0 == n) log)))) (eq-eqb e.0 n same) in
+      let b : one_if (eqb n e.0) ≡ 1 = ap one_if (eq-eqb n e.0 (sym same)) in
+      omega arith)
       (λ (apart : e.0 ≡ n → ⊥).
-          let a : length (made_by n (e ∷ log)) ≡ length (made_by n log) = ap (λ (b : Bool). length (map (λ (x : ℕ × E). x.1) (cond b (e ∷ filter (λ x. x.0 == n) log) (filter (λ x. x.0 == n) log)))) (ne_eqb e.0 n apart) in
-          let b : one_if (eqb n e.0) ≡ 0 = ap one_if (ne_eqb n e.0 (λ same. apart (sym same))) in
-          omega arith)
+      let a : length (made_by n (e ∷ log)) ≡ length (made_by n log) = ap (λ (b : Bool). length (map (λ (x : ℕ × E). x.1) (cond b (e ∷ filter (λ x. x.0 == n) log) (filter (λ x. x.0 == n) log)))) (ne_eqb e.0 n apart) in
+      let b : one_if (eqb n e.0) ≡ 0 = ap one_if (ne_eqb n e.0 (λ same. apart (sym same))) in
+      omega arith)
 
   made-cons : (own : List (ℕ × List E)) (e : ℕ × E) (log : List (ℕ × E)) → made own (e ∷ log) ≡ times e.0 own + made own log
   made-cons [] e log = refl
@@ -81,11 +81,11 @@ module _ {E : Type 0} where
   number_there n (x ∷ xs) some_there = dite (ℕ_discrete x.0 n)
       (λ (same : x.0 ≡ n). (0, omega arith, same))
       (λ (apart : x.0 ≡ n → ⊥).
-          let none_here : one_if (eqb x.0 n) ≡ 0 = ap one_if (ne_eqb x.0 n apart) in
-          let c = times-cons n x xs in
-          let further = number_there n xs (omega arith) in
-          let inside = further.1 in
-          (suc further.0, omega arith, further.2))
+      let none_here : one_if (eqb x.0 n) ≡ 0 = ap one_if (ne_eqb x.0 n apart) in
+      let c = times-cons n x xs in
+      let further = number_there n xs (omega arith) in
+      let inside = further.1 in
+      (suc further.0, omega arith, further.2))
 
   all_there : (own : List (ℕ × List E)) → IsOnce own → (log : List (ℕ × E)) → counted own log ≡ length log → All (λ e. Contains (map (λ x. x.0) own) e.0) log
   all_there own once [] full = All-nil (λ (e : ℕ × E). Contains (map (λ x. x.0) own) e.0)
@@ -120,12 +120,12 @@ module _ {E : Type 0} where
   upto_below zero x own below = absurd (omega arith)
   upto_below (suc n) x own below = dite (ℕ_discrete x.0 n)
       (λ (same : x.0 ≡ n).
-          let here : one_if (eqb x.0 n) ≡ 1 = ap one_if (eq-eqb x.0 n same) in
-          omega (arith, times-cons n x own, upto_above n x own (omega arith)))
+      let here : one_if (eqb x.0 n) ≡ 1 = ap one_if (eq-eqb x.0 n same) in
+      omega (arith, times-cons n x own, upto_above n x own (omega arith)))
       (λ (apart : x.0 ≡ n → ⊥).
-          let not_here : one_if (eqb x.0 n) ≡ 0 = ap one_if (ne_eqb x.0 n apart) in
-          let apart' : x.0 ≢ n = apart in
-          omega (arith, times-cons n x own, upto_below n x own (omega arith)))
+      let not_here : one_if (eqb x.0 n) ≡ 0 = ap one_if (ne_eqb x.0 n apart) in
+      let apart' : x.0 ≢ n = apart in
+      omega (arith, times-cons n x own, upto_below n x own (omega arith)))
 
   upto_all : (n : ℕ) (own : List (ℕ × List E)) → All (λ x. x.0 < n) own → upto n own ≡ length own
   upto_all n [] all = upto-nil n

@@ -1,24 +1,23 @@
 -- Splitting a pass, joining two, and the hall's first and last state.
-use Rattle.std.proofs.Common.{◌≡◌, ◌≢◌, ◌⊎◌, inl, inr, ⊎_elim, ℕ, zero, suc, ◌+◌, ◌-◌, ◌≤◌, ◌<◌, ◌==◌, eqb, Bool, true, false, cond, List, [], ◌∷◌, ◌++◌, length, get_or, set, map, Option, Some, None, refl, sym, ap, ◌∙◌, subst, arith, length-set, length-append, ne_eqb}
+use Rattle.std.proofs.Common.{◌≡◌, inl, inr, ⊎_elim, ℕ, zero, suc, ◌+◌, ◌-◌, ◌≤◌, ◌<◌, ◌==◌, eqb, Bool, true, false, List, [], ◌∷◌, ◌++◌, length, set, Option, Some, refl, sym, ap, ◌∙◌, subst, arith, length-set, length-append, ne_eqb}
 use Rattle.std.specs.List.{All, sum_by}
 use Rattle.std.proofs.lemmas.List.Elements.{All-weaker, All-append, All-nil, All-cons}
-use Rattle.std.proofs.lemmas.List.Sums.{sum_by-append, sum_by_push, sum_by-cons}
+use Rattle.std.proofs.lemmas.List.Sums.{sum_by-append, sum_by_push}
 use mathlib.Core.Logic.{dite}
 use mathlib.Core.Option.{none, some, some-injective, some-ne-none}
 use mathlib.Core.List.{IsPrefix}
 use native.Mathlib.Decide.{ℕ_discrete}
 use lib.ListN.{get_elem?}
 use Rattle.atomic_table.specs.Table.{State, Splits, Joins}
-use Rattle.atomic_table.proofs.Lists.{at_set, at_snoc, at_longer, set_else}
+use Rattle.atomic_table.proofs.Lists.{at_snoc, at_longer, set_else}
 use Rattle.m5_hall.specs.declared.views.View.{View}
-use Rattle.m5_hall.specs.declared.views.Stage.{Stage}
-use Rattle.m5_hall.specs.declared.views.Stage.TheVariants.{Resting, Waiting, Serving}
+use Rattle.m5_hall.specs.declared.views.Stage.TheVariants.{Resting}
 use Rattle.m5_hall.specs.History.{entries, made_by, times}
 use Rattle.m5_hall.specs.Rule.{HasTicket, tickets, StageFits, Fits, IsHome, IsOut, HallRule, first_view}
 use Rattle.m5_hall.specs.Steps.{split_left, split_right, joined, spent}
-use Rattle.m5_hall.proofs.Sums.{sum_changes, term_below, two_below, sum_at_most}
+use Rattle.m5_hall.proofs.Sums.{sum_changes, two_below, sum_at_most}
 use Rattle.m5_hall.proofs.Logs.{none_made, none_here, one_if}
-use Rattle.m5_hall.proofs.Moves.{apart_stages, no_ticket, each_after, differ_after, same_there, out_after}
+use Rattle.m5_hall.proofs.Moves.{apart_stages, no_ticket, each_after, differ_after, out_after}
 
 module _ {V : Type 0} where
   -- what holds of all views and of a new one
@@ -32,9 +31,9 @@ module _ {V : Type 0} where
       → (t i j : ℕ) (a b : V) → get_elem? (vs ++ w ∷ []) i ≡ some a → get_elem? (vs ++ w ∷ []) j ≡ some b → Has t a → Has t b → i ≡ j
   differ_new Has vs w old new t i j a b ea eb ha hb = ⊎_elim
       (λ ia. ⊎_elim
-          (λ jb. old t i j a b ia jb ha hb)
-          (λ (q : w ≡ b). absurd (new t (subst (Has t) (sym q) hb)))
-          (at_snoc vs w b j eb))
+      (λ jb. old t i j a b ia jb ha hb)
+      (λ (q : w ≡ b). absurd (new t (subst (Has t) (sym q) hb)))
+      (at_snoc vs w b j eb))
       (λ (p : w ≡ a). absurd (new t (subst (Has t) (sym p) ha)))
       (at_snoc vs w a i ea)
 
@@ -52,22 +51,22 @@ module _ {T E O : Type 0} (history : T → List E) (origin : T → O) (first : O
   fresh : (s : S) (r : Rule s) → sum_by (own_of (length s.views)) s.views ≡ 0
   fresh s r =
       let none = sum_at_most (own_of (length s.views)) 0 s.views (λ i v e.
-          let f = r.each_pass i v e in
-          let z : times (length s.views) v.own ≡ 0 = none_here (length s.views) v.own (All-weaker (λ (x : ℕ × List E). (made_by x.0 r.log ≡ x.1) × (x.0 < length s.views)) (λ (x : ℕ × List E). x.0 < length s.views) (λ x p. p.1) v.own f.own_is) in
-          omega arith) in
+      let f = r.each_pass i v e in
+      let z : times (length s.views) v.own ≡ 0 = none_here (length s.views) v.own (All-weaker (λ (x : ℕ × List E). (made_by x.0 r.log ≡ x.1) × (x.0 < length s.views)) (λ (x : ℕ × List E). x.0 < length s.views) (λ x p. p.1) v.own f.own_is) in
+      omega arith) in
       omega arith
 
   -- one new number, and the others
   one_new : (s : S) (r : Rule s) (k n : ℕ) → n ≡ length s.views → sum_by (own_of k) s.views + times {E = E} k ((n, []) ∷ []) ≤ 1
   one_new s r k n is = dite (ℕ_discrete n k)
       (λ (same : n ≡ k).
-          let z : sum_by (own_of k) s.views ≡ 0 = subst (λ j. sum_by (own_of j) s.views ≡ 0) (sym is ∙ same) (fresh s r) in
-          let a = one_at_most (eqb n k) in
-          omega arith)
+      let z : sum_by (own_of k) s.views ≡ 0 = subst (λ j. sum_by (own_of j) s.views ≡ 0) (sym is ∙ same) (fresh s r) in
+      let a = one_at_most (eqb n k) in
+      omega arith)
       (λ (apart : n ≡ k → ⊥).
-          let z : one_if (eqb n k) ≡ 0 = ap one_if (ne_eqb n k apart) in
-          let b = r.numbers_differ k in
-          omega arith)
+      let z : one_if (eqb n k) ≡ 0 = ap one_if (ne_eqb n k apart) in
+      let b = r.numbers_differ k in
+      omega arith)
     where
       one_at_most : (b : Bool) → one_if b ≤ 1
       one_at_most true = omega arith
@@ -162,7 +161,7 @@ module _ {T E O : Type 0} (history : T → List E) (origin : T → O) (first : O
         slot_is = ⊎_elim
             (λ (h : IsHome history origin first r.log s). inl h)
             (λ (o : IsOut s). inr (out_after history origin first record { words = s.words; homes = s.homes; views = vs } other w spent there (λ t. apart_stages t w.stage w_rests) s.words
-                (out_after history origin first s id v both at (λ t. apart_stages t v.stage v_rests) s.words o)))
+            (out_after history origin first s id v both at (λ t. apart_stages t v.stage v_rests) s.words o)))
             r.slot_is;
         each_pass = subst (λ m. (j : ℕ) (u : View E O) → get_elem? (set vs other spent) j ≡ some u → Fits first r.served r.drawn m (s.homes ≡ none ∷ []) r.log u) (sym wide)
             (each_after (Fits first r.served r.drawn (length s.views) (s.homes ≡ none ∷ []) r.log) vs other spent

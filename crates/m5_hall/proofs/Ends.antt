@@ -1,19 +1,18 @@
 -- What is so in the last state of a hall.
-use Rattle.std.proofs.Common.{◌≡◌, ◌≢◌, ◌⊎◌, inl, inr, ⊎_elim, ℕ, zero, suc, ◌+◌, ◌≤◌, ◌<◌, ◌==◌, List, [], ◌∷◌, length, get_or, map, Option, Some, None, IsSome, refl, sym, ap, ◌∙◌, subst, arith}
-use Rattle.std.specs.List.{All, sum_by}
+use Rattle.std.proofs.Common.{◌≡◌, ◌≢◌, ⊎_elim, ℕ, ◌+◌, ◌≤◌, ◌<◌, List, [], ◌∷◌, length, Option, Some, None, IsSome, refl, sym, ap, ◌∙◌, subst, arith}
+use Rattle.std.specs.List.{All}
 use Rattle.std.proofs.lemmas.List.{length-map}
 use Rattle.std.proofs.lemmas.List.Elements.{All-weaker, All-head}
 use mathlib.Core.Logic.{dite}
-use mathlib.Core.Option.{none, some, some-injective}
+use mathlib.Core.Option.{some, some-injective}
 use mathlib.Core.List.{IsPrefix}
 use native.Mathlib.Decide.{ℕ_discrete}
 use lib.ListN.{get_elem?}
 use Rattle.atomic_table.specs.Table.{State, Seen, Final}
 use Rattle.m5_hall.specs.declared.views.View.{View}
-use Rattle.m5_hall.specs.declared.views.Stage.{Stage}
-use Rattle.m5_hall.specs.declared.views.Stage.TheVariants.{Resting, Waiting, Serving}
+use Rattle.m5_hall.specs.declared.views.Stage.TheVariants.{Resting}
 use Rattle.m5_hall.specs.History.{entries, made_by, times, entry_count, HasOwn}
-use Rattle.m5_hall.specs.Rule.{tickets, Fits, IsHome, IsOut, HallRule}
+use Rattle.m5_hall.specs.Rule.{tickets, IsHome, IsOut, HallRule}
 use Rattle.m5_hall.proofs.Sums.{term_below, two_below, sum_at_most}
 use Rattle.m5_hall.proofs.Logs.{once_there}
 use Rattle.m5_hall.proofs.Counts.{IsOnce, at_most_all, no_others, at_least_all, each_has_one}
@@ -65,7 +64,7 @@ module _ {T E O : Type 0} (history : T → List E) (origin : T → O) (first : O
       let a = term_below (λ (u : View E O). u.splits_left) s.views id v at in
       let b = r.splits_cover in
       each_has_one (length s.views) v.own (once s r id v at)
-          (All-weaker (λ (x : ℕ × List E). (made_by x.0 r.log ≡ x.1) × (x.0 < length s.views)) (λ (x : ℕ × List E). x.0 < length s.views) (λ x p. p.1) v.own mine.own_is) (omega arith)
+      (All-weaker (λ (x : ℕ × List E). (made_by x.0 r.log ≡ x.1) × (x.0 < length s.views)) (λ (x : ℕ × List E). x.0 < length s.views) (λ x p. p.1) v.own mine.own_is) (omega arith)
 
   -- so no other pass has a list, nor a ticket
   no_tickets : (s : S) (r : Rule s) (id : ℕ) (v : View E O) → get_elem? s.views id ≡ some v → v.stage ≡ Resting → length v.own + v.splits_left ≡ 1048576 → r.drawn ≡ r.served
@@ -88,23 +87,23 @@ module _ {T E O : Type 0} (history : T → List E) (origin : T → O) (first : O
       each : (j : ℕ) (u : View E O) → get_elem? s.views j ≡ some u → tickets u.stage ≤ 0
       each j u e = dite (ℕ_discrete j id)
           (λ (same : j ≡ id).
-              let one : u ≡ v = some-injective u v (sym e ∙ (ap (get_elem? s.views) same ∙ at)) in
-              let none_mine : tickets u.stage ≡ 0 = ap tickets (ap (λ (z : View E O). z.stage) one ∙ rests) in
-              omega arith)
+          let one : u ≡ v = some-injective u v (sym e ∙ (ap (get_elem? s.views) same ∙ at)) in
+          let none_mine : tickets u.stage ≡ 0 = ap tickets (ap (λ (z : View E O). z.stage) one ∙ rests) in
+          omega arith)
           (λ (other : j ≡ id → ⊥).
-              let a = (r.each_pass j u e).ticket_owns in
-              let b = none_of j u other e u.own refl in
-              omega arith)
+          let a = (r.each_pass j u e).ticket_owns in
+          let b = none_of j u other e u.own refl in
+          omega arith)
 
   -- with no ticket out the slot is at home
   at_home : (s : S) (r : Rule s) → r.drawn ≡ r.served → IsHome history origin first r.log s
   at_home s r same = ⊎_elim
       (λ (h : IsHome history origin first r.log s). h)
       (λ (o : IsOut s).
-          let a = term_below (λ (u : View E O). tickets u.stage) s.views o.1.0 o.1.1 o.1.3 in
-          let one : tickets o.1.1.stage ≡ 1 = ap tickets o.1.4 in
-          let out = r.tickets_out in
-          absurd (omega arith))
+      let a = term_below (λ (u : View E O). tickets u.stage) s.views o.1.0 o.1.1 o.1.3 in
+      let one : tickets o.1.1.stage ≡ 1 = ap tickets o.1.4 in
+      let out = r.tickets_out in
+      absurd (omega arith))
       r.slot_is
 
   ends_with : (s : S) (r : Rule s) (id : ℕ) (v : View E O) → get_elem? s.views id ≡ some v → (x : T) → history x ≡ entries r.log → origin x ≡ first → EndsWith history origin v x

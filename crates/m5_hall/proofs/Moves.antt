@@ -1,14 +1,14 @@
 -- Drawing, looking and leaving keep the hall's rule.
-use Rattle.std.proofs.Common.{◌≡◌, ◌≢◌, ◌⊎◌, inl, inr, ⊎_elim, ℕ, zero, suc, ◌+◌, ◌%◌, ◌^◌, ◌≤◌, ◌<◌, ◌==◌, List, [], ◌∷◌, ◌++◌, length, get_or, set, drop, map, Option, Some, None, refl, sym, ap, ◌∙◌, subst, arith, append-nil, length-set, length-append}
-use Rattle.std.specs.List.{All, sum_by}
-use Rattle.std.proofs.lemmas.List.Elements.{All-weaker, All-append, All-map, All-nil, All-cons, All-head, All-tail}
+use Rattle.std.proofs.Common.{◌≡◌, ◌≢◌, inl, inr, ⊎_elim, ℕ, zero, suc, ◌+◌, ◌%◌, ◌^◌, ◌≤◌, ◌<◌, List, [], ◌∷◌, ◌++◌, length, get_or, set, drop, Option, Some, None, refl, sym, ap, ◌∙◌, subst, arith, append-nil, length-set, length-append}
+use Rattle.std.specs.List.{All}
+use Rattle.std.proofs.lemmas.List.Elements.{All-weaker, All-append, All-nil, All-cons, All-head, All-tail}
 use Rattle.std.proofs.Math.Seq.{drop-append_seam}
 use mathlib.Core.Logic.{dite}
 use mathlib.Core.Option.{none, some, some-injective, some-ne-none}
 use mathlib.Core.List.{IsPrefix}
 use native.Mathlib.Decide.{ℕ_discrete}
 use lib.ListN.{get_elem?}
-use Rattle.atomic_table.specs.Table.{State, Me, step, Act, keeps, takes, gives, stepped, put_back, rest as rest_of, Allows}
+use Rattle.atomic_table.specs.Table.{State, Me, step, keeps, takes, gives, stepped, put_back, rest as rest_of, Allows}
 use Rattle.atomic_table.proofs.Lists.{at_set, set_here, set_else, set_again}
 use Rattle.m5_hall.specs.declared.views.View.{View}
 use Rattle.m5_hall.specs.declared.views.Stage.{Stage}
@@ -79,13 +79,13 @@ module _ {V : Type 0} where
       → (t i j : ℕ) (a b : V) → get_elem? (set vs id w) i ≡ some a → get_elem? (set vs id w) j ≡ some b → Has t a → Has t b → i ≡ j
   differ_after Has vs id w old new t i j a b ea eb ha hb = ⊎_elim
       (λ (p : (i ≡ id) × (w ≡ a)). ⊎_elim
-          (λ (q : (j ≡ id) × (w ≡ b)). p.0 ∙ sym q.0)
-          (λ (q : (j ≢ id) × (get_elem? vs j ≡ some b)). absurd (new t j b q.0 q.1 (subst (Has t) (sym p.1) ha) hb))
-          (at_set vs id j w b eb))
+      (λ (q : (j ≡ id) × (w ≡ b)). p.0 ∙ sym q.0)
+      (λ (q : (j ≢ id) × (get_elem? vs j ≡ some b)). absurd (new t j b q.0 q.1 (subst (Has t) (sym p.1) ha) hb))
+      (at_set vs id j w b eb))
       (λ (p : (i ≢ id) × (get_elem? vs i ≡ some a)). ⊎_elim
-          (λ (q : (j ≡ id) × (w ≡ b)). absurd (new t i a p.0 p.1 (subst (Has t) (sym q.1) hb) ha))
-          (λ (q : (j ≢ id) × (get_elem? vs j ≡ some b)). old t i j a b p.1 q.1 ha hb)
-          (at_set vs id j w b eb))
+      (λ (q : (j ≡ id) × (w ≡ b)). absurd (new t i a p.0 p.1 (subst (Has t) (sym q.1) hb) ha))
+      (λ (q : (j ≢ id) × (get_elem? vs j ≡ some b)). old t i j a b p.1 q.1 ha hb)
+      (at_set vs id j w b eb))
       (at_set vs id i w a ea)
 
   pub same_there : (vs : List V) (i : ℕ) (a b : V) → get_elem? vs i ≡ some a → get_elem? vs i ≡ some b → a ≡ b
@@ -220,7 +220,7 @@ module _ {T E O : Type 0} (history : T → List E) (origin : T → O) (first : O
       let below = drawn_below s r in
       let found : get_or s.words 0 0 ≡ r.drawn = ap (λ ws. get_or ws 0 0) r.words_are in
       let words : set s.words 0 ((get_or s.words 0 0 + 1) % 18446744073709551616) ≡ (r.drawn + 1) ∷ r.served ∷ [] =
-          ap (λ ws. set ws 0 ((get_or ws 0 0 + 1) % 18446744073709551616)) r.words_are ∙ ap (λ n. n ∷ r.served ∷ []) (small_mod (r.drawn + 1) (omega arith)) in (
+      ap (λ ws. set ws 0 ((get_or ws 0 0 + 1) % 18446744073709551616)) r.words_are ∙ ap (λ n. n ∷ r.served ∷ []) (small_mod (r.drawn + 1) (omega arith)) in (
         drawing r.drawn m.0,
         keeps,
         tt,
@@ -281,27 +281,27 @@ module _ {T E O : Type 0} (history : T → List E) (origin : T → O) (first : O
       let found : get_or s.words 1 0 ≡ r.served = ap (λ ws. get_or ws 1 0) r.words_are in
       let words : set s.words 1 (get_or s.words 1 0) ≡ r.drawn ∷ r.served ∷ [] = ap (λ ws. set ws 1 (get_or ws 1 0)) r.words_are in
       dite (ℕ_discrete (get_or s.words 1 0) t)
-          (λ (hit : get_or s.words 1 0 ≡ t). ⊎_elim
-              (λ (h : IsHome history origin first r.log s). let mine = r.each_pass id m.0 at in (
-                serving t (history h.0) m.0,
-                takes 0 (Some h.0),
-                ap (λ hs. get_elem? hs 0) h.1,
-                subst (λ (z : List ℕ × List (mathlib.Core.Option.Option (Option T))). Rule record { words = z.0; homes = z.1; views = set s.views id (serving t (history h.0) m.0) })
-                    (λ i. (sym words i, sym (ap (λ hs. set hs 0 none) h.1) i))
-                    (taken_rule s r id m.0 t at waits (sym hit ∙ found) h.0 h.1 h.2),
-                subst (LooksAt history origin m (get_or s.words 1 0) (serving t (history h.0) m.0, (0, Some h.0) ∷ m.1)) (sym waits)
-                    ((λ _. (h.0, refl, subst (λ l. All (λ seen. IsPrefix seen l) m.0.seen) (sym h.2) mine.seen_is, λ o e. mine.origin_is o e ∙ sym h.3)), λ miss. absurd (miss hit)),
-              ))
-              (λ (o : IsOut s). absurd (out_now o (sym hit ∙ found)))
-              r.slot_is)
-          (λ (miss : get_or s.words 1 0 ≡ t → ⊥). (
-            m.0,
-            keeps,
-            tt,
-            subst (λ (z : List ℕ × List (View E O)). Rule record { words = z.0; homes = s.homes; views = z.1 })
-                (λ i. ((r.words_are ∙ sym words) i, sym (set_again s.views id m.0 at) i)) r,
-            subst (LooksAt history origin m (get_or s.words 1 0) (m.0, m.1)) (sym waits) ((λ hit. absurd (miss hit)), λ _. refl),
-          ))
+      (λ (hit : get_or s.words 1 0 ≡ t). ⊎_elim
+      (λ (h : IsHome history origin first r.log s). let mine = r.each_pass id m.0 at in (
+        serving t (history h.0) m.0,
+        takes 0 (Some h.0),
+        ap (λ hs. get_elem? hs 0) h.1,
+        subst (λ (z : List ℕ × List (mathlib.Core.Option.Option (Option T))). Rule record { words = z.0; homes = z.1; views = set s.views id (serving t (history h.0) m.0) })
+            (λ i. (sym words i, sym (ap (λ hs. set hs 0 none) h.1) i))
+            (taken_rule s r id m.0 t at waits (sym hit ∙ found) h.0 h.1 h.2),
+        subst (LooksAt history origin m (get_or s.words 1 0) (serving t (history h.0) m.0, (0, Some h.0) ∷ m.1)) (sym waits)
+            ((λ _. (h.0, refl, subst (λ l. All (λ seen. IsPrefix seen l) m.0.seen) (sym h.2) mine.seen_is, λ o e. mine.origin_is o e ∙ sym h.3)), λ miss. absurd (miss hit)),
+      ))
+      (λ (o : IsOut s). absurd (out_now o (sym hit ∙ found)))
+      r.slot_is)
+      (λ (miss : get_or s.words 1 0 ≡ t → ⊥). (
+        m.0,
+        keeps,
+        tt,
+        subst (λ (z : List ℕ × List (View E O)). Rule record { words = z.0; homes = s.homes; views = z.1 })
+            (λ i. ((r.words_are ∙ sym words) i, sym (set_again s.views id m.0 at) i)) r,
+        subst (LooksAt history origin m (get_or s.words 1 0) (m.0, m.1)) (sym waits) ((λ hit. absurd (miss hit)), λ _. refl),
+      ))
     where
       out_now : IsOut s → t ≡ r.served → ⊥
       out_now o now =
@@ -324,8 +324,8 @@ module _ {T E O : Type 0} (history : T → List E) (origin : T → O) (first : O
       let P : List (ℕ × E) → ℕ × List E → Type 0 = λ l x. (made_by x.0 l ≡ x.1) × (x.0 < passes) in
       let head : P log (n, es) = All-head (P log) (n, es) rest all in
       All-cons (P (log ++ named n news)) (n, es ++ news) rest
-          (made_more n log news ∙ ap (λ l. l ++ news) head.0, head.1)
-          (own_stays passes n log news rest (let one = first_there n es rest in omega arith) (All-tail (P log) (n, es) rest all))
+      (made_more n log news ∙ ap (λ l. l ++ news) head.0, head.1)
+      (own_stays passes n log news rest (let one = first_there n es rest in omega arith) (All-tail (P log) (n, es) rest all))
 
   left_rule : (s : S) (r : Rule s) (id : ℕ) (v : View E O) (t n : ℕ) (h es news : List E) (rest : List (ℕ × List E)) (y : T) → get_elem? s.views id ≡ some v → v.stage ≡ Serving t → v.seen ≡ h ∷ [] → v.own ≡ (n, es) ∷ rest
       → history y ≡ h ++ news → length news ≤ 1 → v.origin ≡ Some (origin y)
@@ -397,11 +397,11 @@ module _ {T E O : Type 0} (history : T → List E) (origin : T → O) (first : O
       let below = drawn_below s r in
       let out = r.tickets_out in
       let words : set s.words 1 ((get_or s.words 1 0 + 1) % 18446744073709551616) ≡ r.drawn ∷ (r.served + 1) ∷ [] =
-          ap (λ ws. set ws 1 ((get_or ws 1 0 + 1) % 18446744073709551616)) r.words_are ∙ ap (λ k. r.drawn ∷ k ∷ []) (small_mod (r.served + 1) (omega arith)) in
+      ap (λ ws. set ws 1 ((get_or ws 1 0 + 1) % 18446744073709551616)) r.words_are ∙ ap (λ k. r.drawn ∷ k ∷ []) (small_mod (r.served + 1) (omega arith)) in
       let stage : (t ≡ r.served) × (t < r.drawn) × (s.homes ≡ none ∷ []) × (m.0.seen ≡ entries r.log ∷ []) = subst (StageFits r.served r.drawn (s.homes ≡ none ∷ []) (m.0.seen ≡ entries r.log ∷ [])) serves (r.each_pass id m.0 at).stage_is in
       let homes : put_back s.homes m.1 ≡ back y = (λ i. put_back (stage.2 i) (holds i)) in
       subst (λ (z : List ℕ × Homes × View E O). Rule record { words = z.0; homes = z.1; views = set s.views id z.2 }) (λ i. (sym words i, sym homes i, is i))
-          (left_rule s r id m.0 t n h es news rest y at serves saw owns grown few begins)
+      (left_rule s r id m.0 t n h es news rest y at serves saw owns grown few begins)
 
   -- the first of the lists is the pass's own
   first_own : (own : List (ℕ × List E)) → 0 < length own → (n : ℕ) × (es : List E) × (rest : List (ℕ × List E)) × (own ≡ (n, es) ∷ rest)

@@ -1,7 +1,6 @@
 -- What contracts see of a pass, a turn and the entries that a hall gives back.
-use Rattle.std.specs.Prelude.{◌≡◌, ℕ, ◌+◌, ◌-◌, List, [], ◌∷◌, ◌++◌, map, length, Option, Some, All, Contains}
+use Rattle.std.specs.Prelude.{◌≡◌, ℕ, ◌+◌, ◌-◌, List, [], ◌∷◌, ◌++◌, length, Option, Some}
 use Rattle.atomic_table.specs.Seated.{TableId}
-use Rattle.m5_hall.specs.History.{entries, made_by, entry_count}
 use Rattle.m5_hall.specs.declared.views.View.{View}
 
 -- its hall, the origin of the hall's value, the histories that it has seen, and its own entries under its number, before those of each pass that was joined into it

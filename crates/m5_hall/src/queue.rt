@@ -7,13 +7,19 @@ use crate::hall::Hall;
 use crate::kept::Kept;
 use crate::views::{DoneWithNone, DoneWithOne, Draw, Look, View};
 use atomic_table::Seat;
+use std::hint;
 use std::sync::Wait;
-use std::thread;
 
 // The word that has the next ticket, and the word that has the ticket that is served.
 const NEXT: usize = 0;
 
 const SERVED: usize = 1;
+
+// How often a pass looks before it sleeps.
+const LOOKS: u32 = 64;
+
+// Sleeping compares these bits of a word alone.
+const LOW_BITS: u64 = 0xffff_ffff;
 
 pub(crate) type Place<T> = Seat<Option<T>, View<<T as Kept>::Entry, <T as Kept>::Origin>>;
 
@@ -31,20 +37,41 @@ impl<T: Kept> Hall<T> {
     }
 
     // Looks until the ticket is served, and takes the slot.
+    // A pass sleeps while another is served. A wake that finds another's ticket is passed on, since it may have been meant for a pass behind.
     pub(crate) fn wait<R: Wait>(&self, rt: &R, seat: &mut Place<T>, ticket: u64)
         requires hall { seat.old.table_id ≡ self.now }
         requires waits { seat.old.me.0.stage ≡ Waiting ticket }
         ensures hall { seat.new.table_id ≡ seat.old.table_id }
         ensures served { Serves T.history T.origin ticket seat.old.me seat.new.me }
     {
+        let mut looks_left = LOOKS;
+        let mut slept = false;
         for _ in rt.forever() {
             let served = self.table.shared.load::<Look>(seat, SERVED);
             if served == ticket {
                 return;
             }
-            thread::yield_now();
+            if looks_left > 0 {
+                looks_left -= 1;
+                hint::spin_loop();
+                continue;
+            }
+            if slept {
+                self.table.shared.wake_one(SERVED);
+            }
+            self.table
+                .shared
+                .park(rt, SERVED, (served & LOW_BITS) as u32);
+            slept = true;
         }
         unreachable!()
+    }
+
+    // Wakes a pass that sleeps, where one has drawn a ticket behind this one.
+    fn call_next(&self, ticket: u64) {
+        if self.table.shared.peek(NEXT) != ticket.wrapping_add(1) {
+            self.table.shared.wake_one(SERVED);
+        }
     }
 
     // Takes the value out of the slot in hand.
@@ -78,7 +105,8 @@ impl<T: Kept> Hall<T> {
         ensures hall { seat.new.table_id ≡ seat.old.table_id }
         ensures left { seat.new.me ≡ (leaving T.history T.origin seat.old.me.0 seat.old.me.1, []) }
     {
-        self.table.shared.fetch_add::<DoneWithOne>(seat, SERVED, 1);
+        let ticket = self.table.shared.fetch_add::<DoneWithOne>(seat, SERVED, 1);
+        self.call_next(ticket);
     }
 
     // Ends the turn with no entry, and the next ticket is served.
@@ -88,6 +116,7 @@ impl<T: Kept> Hall<T> {
         ensures hall { seat.new.table_id ≡ seat.old.table_id }
         ensures left { seat.new.me ≡ (record seat.old.me.0 { stage = Resting }, []) }
     {
-        self.table.shared.fetch_add::<DoneWithNone>(seat, SERVED, 1);
+        let ticket = self.table.shared.fetch_add::<DoneWithNone>(seat, SERVED, 1);
+        self.call_next(ticket);
     }
 }

@@ -16,6 +16,7 @@ struct Numbers {
 
 impl Kept for Numbers {
     type Entry = u32;
+
     type Origin = ();
 
     ghost origin = { λ n. tt };
@@ -158,7 +159,11 @@ fn add_all<R: Threads + Wait + Sync>(
 }
 
 // Joins all passes into one.
-fn join_all(hall: &Hall<Numbers>, mut into: Pass<Numbers>, passes: Vec<Pass<Numbers>>) -> Pass<Numbers>
+fn join_all(
+    hall: &Hall<Numbers>,
+    mut into: Pass<Numbers>,
+    passes: Vec<Pass<Numbers>>,
+) -> Pass<Numbers>
     requires hall { into.hall ≡ hall.now }
     requires passes { All (λ p. p.hall ≡ hall.now) passes.items }
     ensures { result.hall ≡ hall.now }

@@ -9,4 +9,4 @@ new-requires g c =
     let begins = g.T.Kept.origin in
     let items : c.push.new.self.items ≡ Some c.args.value ∷ [] = search rules in
     subst (λ (xs : List (Option g.row.T.Denot)). HallRule g.T.Kept.history begins (begins c.of-about.result.value) (opening (0 ∷ 0 ∷ []) xs (first_view (begins c.of-about.result.value)))) (sym items)
-        (opens g.T.Kept.history begins (begins c.of-about.result.value) c.args.value c.requires (ap begins (sym c.of-about.ensures)))
+    (opens g.T.Kept.history begins (begins c.of-about.result.value) c.args.value c.requires (ap begins (sym c.of-about.ensures)))
