@@ -17,7 +17,8 @@ use Rattle.m5_hall.specs.Rule.{HasTicket, tickets, StageFits, Fits, IsHome, IsOu
 use Rattle.m5_hall.specs.Steps.{split_left, split_right, joined, spent}
 use Rattle.m5_hall.proofs.Sums.{sum_changes, two_below, sum_at_most}
 use Rattle.m5_hall.proofs.Logs.{none_made, none_here, one_if}
-use Rattle.m5_hall.proofs.Moves.{apart_stages, no_ticket, each_after, differ_after, out_after}
+use Rattle.m5_hall.proofs.OneView.{apart_stages, no_ticket, each_after, differ_after}
+use Rattle.m5_hall.proofs.Moves.{out_after}
 
 module _ {V : Type 0} where
   -- what holds of all views and of a new one

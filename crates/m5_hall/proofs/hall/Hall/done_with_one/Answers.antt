@@ -1,5 +1,5 @@
 use Rattle.std.proofs.Common.{rules}
-use Rattle.m5_hall.proofs.Moves.{leaves_one}
+use Rattle.m5_hall.proofs.Leaves.{leaves_one}
 use Rattle.m5_hall.proofs.hall.Hall.done_with_one.Goals as goal
 
 pub fetch_add-ticket-requires : goal.fetch_add-ticket-requires

@@ -4,7 +4,7 @@ use mathlib.Core.List.{IsPrefix}
 use Rattle.atomic_table.specs.Table.{Me}
 use Rattle.m5_hall.specs.declared.views.View.{View}
 use Rattle.m5_hall.specs.Passes.{Known}
-use Rattle.m5_hall.proofs.Moves.{served_value}
+use Rattle.m5_hall.proofs.Leaves.{served_value}
 use Rattle.m5_hall.proofs.hall.Hall.enter.Goals as goal
 
 pub returns-clause-seen : goal.returns-clause-seen

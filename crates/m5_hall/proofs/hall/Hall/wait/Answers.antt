@@ -1,5 +1,6 @@
 use Rattle.std.proofs.Common.{rules, ap, ◌∙◌}
-use Rattle.m5_hall.proofs.Moves.{looks, serves_then}
+use Rattle.m5_hall.proofs.Leaves.{serves_then}
+use Rattle.m5_hall.proofs.Moves.{looks}
 use Rattle.m5_hall.proofs.hall.Hall.wait.Goals as goal
 
 pub load-served-requires : goal.load-served-requires
