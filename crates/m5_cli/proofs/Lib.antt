@@ -1,0 +1,6 @@
+mod Claims
+mod Closing
+mod Finishing
+mod Speaking
+mod Steps
+mod Texts

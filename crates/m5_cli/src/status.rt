@@ -1,0 +1,40 @@
+//! How a call of the program ends.
+
+ghost use Rattle.std.specs.Prelude.{◌≡◌};
+ghost use Rattle.m5_cli.specs.Status.{number_of};
+
+/// How a call ended. Each status writes its own line or the job's output, and has a number for the process.
+#[derive(Clone, Copy, Debug, PartialEq, Eq)]
+pub enum Status {
+    /// The job's output is written, and no site stopped.
+    Rest,
+    /// The words are no listed spelling.
+    Usage,
+    /// The source failed.
+    ReadFault,
+    /// The sink failed.
+    WriteFault,
+    /// Memory ran out.
+    NoMemory,
+    /// The input has more than 262,144 bytes.
+    TooLong,
+    /// The program or the script is not of the form that `run` takes today.
+    Unbuilt,
+}
+
+impl Status {
+    /// The number that the process ends with.
+    pub fn number(self) -> u8
+        ensures { result ≡ number_of self }
+    {
+        match self {
+            Status::Rest => 0,
+            Status::Usage => 1,
+            Status::ReadFault => 2,
+            Status::WriteFault => 3,
+            Status::NoMemory => 7,
+            Status::TooLong => 8,
+            Status::Unbuilt => 11,
+        }
+    }
+}

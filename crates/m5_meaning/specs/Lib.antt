@@ -1,0 +1,7 @@
+pub mod Asks
+pub mod Machine
+pub mod Numbers
+pub mod Parts
+pub mod Reduction
+pub mod Site
+pub mod Step

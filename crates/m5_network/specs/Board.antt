@@ -1,0 +1,132 @@
+-- The board: the key store, the watches and, for each session, its page, triggers, events and links; and its answers.
+use Rattle.std.specs.Prelude.{ℕ, ◌==◌, Bool, if◌then◌else◌, List, [], ◌∷◌, ◌++◌, Option, Some, None}
+use Rattle.std.specs.Str.{bytes_eq}
+use Rattle.m5_terms.specs.Worlds.{site_worlds}
+use Rattle.m5_terms.specs.TypeExpression.{same_world}
+use Rattle.m5_meaning.specs.Asks.{Query, say, set, get_text, on, read, write, watch, send, take, stop, Reply, done, found, missing, message, fired, event, nothing}
+use Rattle.m5_terms.specs.declared.types.World.{World}
+use Rattle.m5_terms.specs.declared.types.World.TheVariants.{Home, Server, Any}
+use Rattle.m5_network.specs.Scenario.{Pair}
+
+-- a watch of a key by a session's handler
+pub record Watch : Type 0 where
+  pub key : List ℕ
+  pub session : ℕ
+  pub number : ℕ
+
+-- a write that a handler is still to be told of
+pub record Trigger : Type 0 where
+  pub key : List ℕ
+  pub number : ℕ
+  pub text : List ℕ
+
+-- a page event that is left
+pub record Happening : Type 0 where
+  pub element : List ℕ
+  pub text : List ℕ
+
+-- a handler of an element
+pub record Handling : Type 0 where
+  pub element : List ℕ
+  pub number : ℕ
+
+-- what one session has: its page, its triggers, the events left, and a link from each of its worlds to each other one
+pub record Desk (Item : Type 0) : Type 0 where
+  pub texts : List Pair
+  pub handlers : List Handling
+  pub triggers : List Trigger
+  pub events : List Happening
+  pub link : World → World → List Item
+
+pub record Board (Item : Type 0) : Type 0 where
+  pub pairs : List Pair
+  pub watches : List Watch
+  pub desks : ℕ → Desk Item
+
+-- the text of a key
+abbrev pub text_at : List Pair → List ℕ → Option (List ℕ)
+text_at [] key = None
+text_at (p ∷ ps) key = if bytes_eq p.key key then Some p.text else text_at ps key
+
+-- the pair of a key is set, in its place or last
+abbrev pub set_at : List Pair → List ℕ → List ℕ → List Pair
+set_at [] key text = record { key = key; text = text } ∷ []
+set_at (p ∷ ps) key text = if bytes_eq p.key key then record { key = key; text = text } ∷ ps else p ∷ set_at ps key text
+
+-- the function, but for one session or world
+abbrev pub at_session : {A : Type 0} → ℕ → A → (ℕ → A) → ℕ → A
+at_session s a f = λ z. if z == s then a else f z
+
+abbrev pub at_world : {A : Type 0} → World → A → (World → A) → World → A
+at_world w a f = λ v. if same_world v w then a else f v
+
+abbrev pub with_link : {Item : Type 0} → World → World → List Item → Desk Item → Desk Item
+with_link v w items d = record d { link = at_world v (at_world w items (d.link v)) d.link }
+
+-- one trigger for each watch of the key, in order of registration, to the session that registered it
+abbrev pub posted : {Item : Type 0} → List ℕ → List ℕ → List Watch → (ℕ → Desk Item) → ℕ → Desk Item
+posted key text [] desks = desks
+posted key text (w ∷ ws) desks =
+    if bytes_eq w.key key then posted key text ws (at_session w.session (record (desks w.session) { triggers = (desks w.session).triggers ++ record { key = key; number = w.number; text = text } ∷ [] }) desks)
+    else posted key text ws desks
+
+-- the numbers of an element's handlers, in order of registration
+abbrev pub handlers_of : List Handling → List ℕ → List ℕ
+handlers_of [] element = []
+handlers_of (h ∷ hs) element = if bytes_eq h.element element then h.number ∷ handlers_of hs element else handlers_of hs element
+
+-- an answer with the board after it
+pub record Answered (Item : Type 0) : Type 0 where
+  pub reply : Reply Item
+  pub board : Board Item
+
+abbrev pub answered : {Item : Type 0} → Reply Item → Board Item → Answered Item
+answered r b = record { reply = r; board = b }
+
+-- the answer, with the session's desk changed
+abbrev pub answered_at : {Item : Type 0} → Reply Item → ℕ → Desk Item → Board Item → Answered Item
+answered_at r s d b = answered r (record b { desks = at_session s d b.desks })
+
+abbrev pub text_or_missing : {Item : Type 0} → Option (List ℕ) → Reply Item
+text_or_missing None = missing
+text_or_missing (Some t) = found t
+
+abbrev pub text_or_empty : {Item : Type 0} → Option (List ℕ) → Reply Item
+text_or_empty None = found []
+text_or_empty (Some t) = found t
+
+abbrev pub take_event : {Item : Type 0} → Board Item → ℕ → Desk Item → List Happening → Answered Item
+take_event b s d [] = answered nothing b
+take_event b s d (e ∷ es) = answered_at (event e.element (handlers_of d.handlers e.element) e.text) s (record d { events = es }) b
+
+abbrev pub take_trigger : {Item : Type 0} → Board Item → ℕ → Desk Item → List Trigger → Answered Item
+take_trigger b s d [] = answered nothing b
+take_trigger b s d (t ∷ ts) = answered_at (fired t.key t.number t.text) s (record d { triggers = ts }) b
+
+-- without a message, a home takes its next event and a server its first trigger
+abbrev pub take_other : {Item : Type 0} → Board Item → ℕ → World → Answered Item
+take_other b s Home = take_event b s (b.desks s) (b.desks s).events
+take_other b s Server = take_trigger b s (b.desks s) (b.desks s).triggers
+take_other b s Any = answered nothing b
+
+-- a message comes first: the first item of the first link to the site that is not empty
+abbrev pub take_from : {Item : Type 0} → Board Item → ℕ → World → World → List Item → Answered Item → Answered Item
+take_from b s w v [] otherwise = otherwise
+take_from b s w v (i ∷ is) otherwise = answered_at (message v i) s (with_link v w is (b.desks s)) b
+
+abbrev pub take_at : {Item : Type 0} → Board Item → ℕ → World → List World → Answered Item
+take_at b s w [] = take_other b s w
+take_at b s w (v ∷ vs) = take_from b s w v ((b.desks s).link v w) (take_at b s w vs)
+
+-- the board's answer to what session s asks at w
+abbrev pub answer_of : {Item : Type 0} → Board Item → ℕ → World → Query Item → Answered Item
+answer_of b s w (say t) = answered done b
+answer_of b s w (set e t) = answered_at done s (record (b.desks s) { texts = set_at (b.desks s).texts e t }) b
+answer_of b s w (get_text e) = answered (text_or_empty (text_at (b.desks s).texts e)) b
+answer_of b s w (on e n) = answered_at done s (record (b.desks s) { handlers = (b.desks s).handlers ++ record { element = e; number = n } ∷ [] }) b
+answer_of b s w (read k) = answered (text_or_missing (text_at b.pairs k)) b
+answer_of b s w (write k t) = answered done (record { pairs = set_at b.pairs k t; watches = b.watches; desks = posted k t b.watches b.desks })
+answer_of b s w (watch k n) = answered done (record b { watches = b.watches ++ record { key = k; session = s; number = n } ∷ [] })
+answer_of b s w (send v i) = answered_at done s (with_link w v ((b.desks s).link w v ++ i ∷ []) (b.desks s)) b
+answer_of b s w take = take_at b s w site_worlds
+answer_of b s w (stop c) = answered done b

@@ -1,0 +1,7 @@
+pub mod Scenario
+pub mod Board
+pub mod Entries
+pub mod Run
+pub mod Plain
+pub mod Opening
+pub mod Claim

@@ -1,0 +1,2 @@
+//! The board that the sites of all sessions share, and runs of a program by a list of places.
+#![tactic(auto)]

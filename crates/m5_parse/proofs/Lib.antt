@@ -1,0 +1,3 @@
+mod FirstSaid
+pub mod FirstSays
+mod FirstWords

@@ -1,0 +1,3 @@
+pub mod FirstGrammar
+pub mod FirstMarks
+pub mod FirstSays

@@ -1,0 +1,13 @@
+pub mod TypeExpression
+pub mod ShapeMeaning
+pub mod Expression
+pub mod TermMeaning
+pub mod Substitution
+pub mod Opened
+pub mod Size
+pub mod Primitives
+pub mod Taken
+pub mod Closed
+pub mod Worlds
+pub mod Seal
+pub mod Text

@@ -1,0 +1,22 @@
+//! What every other crate speaks of: types, terms, threads, and what a site asks and is answered.
+#![tactic(auto)]
+
+pub mod ask;
+pub mod binders;
+pub mod build;
+pub mod copy;
+pub mod form;
+pub mod listed;
+pub mod node;
+pub mod opened;
+pub mod primitives;
+pub mod seal;
+pub mod size;
+pub mod substitute;
+pub mod taken;
+#[cfg(test)]
+mod tests;
+pub mod text;
+pub mod thread;
+pub mod types;
+pub mod worlds;

@@ -1,0 +1,85 @@
+//! Each call that takes memory, with memory to spare, and what no clause spells out.
+
+use crate::ask::{Answer, Ask, Numbers};
+use crate::form::{BinaryForm, LeafForm, UnaryForm};
+use crate::listed::Listed;
+use crate::node::{Node, NodeBox};
+use crate::opened::{LeafView, Opened};
+use crate::primitives::extern_of;
+use crate::seal::seal_of;
+use crate::size::size_of;
+use crate::substitute::substitute;
+use crate::text::Text;
+use crate::thread::{Focus, Frame, Frames, Thread};
+use crate::types::{Prim, Shape, Ty, World, is_same};
+use std::test::Fail;
+
+fn is_unit(node: &Node) -> bool {
+    matches!(node.open(), Opened::Leaf(LeafView::Unit))
+}
+
+#[test]
+fn substitutes_free_uses_alone(rt: HostRuntime) -> Result<(), Fail> {
+    let alloc = rt.alloc();
+    let inner = NodeBox::new(alloc, Node::leaf(LeafForm::Var(1)))?;
+    let function = Node::unary(UnaryForm::Fn(1, Ty::new(Shape::Int)), inner);
+    let free = NodeBox::new(alloc, Node::leaf(LeafForm::Valid(1)))?;
+    let pair = Node::binary(BinaryForm::Pair, free, NodeBox::new(alloc, function)?);
+    let value = Node::leaf(LeafForm::Unit);
+    let replaced = substitute(alloc, 1, &value, &pair)?;
+    let kept = match replaced.open() {
+        Opened::Binary(BinaryForm::Pair, first, second) => {
+            let bound = match second.open() {
+                Opened::Unary(_, body) => matches!(body.open(), Opened::Leaf(LeafView::Var(1))),
+                _ => false,
+            };
+            is_unit(first) && bound
+        }
+        _ => false,
+    };
+    assert!(rt; kept);
+    Ok(())
+}
+
+#[test]
+fn measures_a_thread(rt: HostRuntime) -> Result<(), Fail> {
+    let alloc = rt.alloc();
+    let mut frames: Frames = Listed::make(alloc);
+    frames.push(Frame::Return(World::Home))?;
+    let text = Text::of(alloc, b"four")?;
+    let focus = Focus::Eval(World::Server, Node::leaf(LeafForm::Str(text)));
+    let thread = Thread { frames, focus };
+    assert_eq!(rt; thread.frames.count(), 1);
+    assert_eq!(rt; size_of(&thread), 6);
+    Ok(())
+}
+
+#[test]
+fn copies_asks_answers_and_numbers(rt: HostRuntime) -> Result<(), Fail> {
+    let alloc = rt.alloc();
+    let ask = Ask::On(Text::of(alloc, b"log")?, 3).copy(alloc)?;
+    assert!(rt; matches!(ask, Ask::On(_, 3)));
+    let mut numbers: Numbers = Listed::make(alloc);
+    numbers.push(7)?;
+    let copied = numbers.copy(alloc)?;
+    assert_eq!(rt; copied.count(), 1);
+    assert_eq!(rt; *copied.at(0), 7);
+    let answer = Answer::Event(Text::of(alloc, b"log")?, numbers, Text::of(alloc, b"x")?);
+    assert!(rt; matches!(answer.copy(alloc)?, Answer::Event(_, _, _)));
+    Ok(())
+}
+
+#[test]
+fn knows_the_primitives(rt: HostRuntime) -> Result<(), Fail> {
+    let alloc = rt.alloc();
+    assert_eq!(rt; extern_of(b"get_text"), Some(Prim::GetText));
+    assert_eq!(rt; extern_of(b"gettext"), None);
+    let read = Prim::Read.ty(alloc)?;
+    assert!(rt; is_same(&read, &read.copy(alloc)?));
+    assert!(rt; !is_same(&read, &Prim::Say.ty(alloc)?));
+    assert_eq!(rt;
+        seal_of(0x0102_0304).0,
+        [0x4d, 0x4c, 0x35, 0x73, 1, 2, 3, 4]
+    );
+    Ok(())
+}
