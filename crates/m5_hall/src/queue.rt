@@ -9,6 +9,7 @@ use crate::views::{DoneWithNone, DoneWithOne, Draw, Look, View};
 use atomic_table::Seat;
 use std::hint;
 use std::sync::Wait;
+use std::time::Duration;
 
 // The word that has the next ticket, and the word that has the ticket that is served.
 const NEXT: usize = 0;
@@ -17,6 +18,9 @@ const SERVED: usize = 1;
 
 // How often a pass looks before it sleeps.
 const LOOKS: u32 = 64;
+
+// A pass sleeps no longer than this at a time, whoever is woken.
+const SLEEP_MILLIS: u64 = 20;
 
 // Sleeping compares these bits of a word alone.
 const LOW_BITS: u64 = 0xffff_ffff;
@@ -37,7 +41,7 @@ impl<T: Kept> Hall<T> {
     }
 
     // Looks until the ticket is served, and takes the slot.
-    // A pass sleeps while another is served. A wake that finds another's ticket is passed on, since it may have been meant for a pass behind.
+    // A pass sleeps while another is served. A wake that was meant for another is passed on, but not to one that has slept through no change.
     pub(crate) fn wait<R: Wait>(&self, rt: &R, seat: &mut Place<T>, ticket: u64)
         requires hall { seat.old.table_id ≡ self.now }
         requires waits { seat.old.me.0.stage ≡ Waiting ticket }
@@ -46,6 +50,7 @@ impl<T: Kept> Hall<T> {
     {
         let mut looks_left = LOOKS;
         let mut slept = false;
+        let mut slept_at = 0;
         for _ in rt.forever() {
             let served = self.table.shared.load::<Look>(seat, SERVED);
             if served == ticket {
@@ -56,12 +61,14 @@ impl<T: Kept> Hall<T> {
                 hint::spin_loop();
                 continue;
             }
-            if slept {
+            if slept && slept_at != served {
                 self.table.shared.wake_one(SERVED);
             }
+            let low = (served & LOW_BITS) as u32;
             self.table
                 .shared
-                .park(rt, SERVED, (served & LOW_BITS) as u32);
+                .park_timeout(rt, SERVED, low, Duration::from_millis(SLEEP_MILLIS));
+            slept_at = served;
             slept = true;
         }
         unreachable!()
