@@ -5,9 +5,8 @@
 
 mod turns;
 
-use std::env;
-use std::io;
 use std::time::Instant;
+use std::{env, io};
 
 fn main(rt: HostRuntime) -> io::Result<()> {
     let mut turns: u32 = 100;
@@ -23,7 +22,9 @@ fn main(rt: HostRuntime) -> io::Result<()> {
         let start = Instant::now(&rt)?;
         let under_lock = turns::under_lock(&rt, rt.alloc(), threads, turns)?;
         let lock_time = start.elapsed(&rt)?.as_micros();
-        println!(rt; "{threads} threads: {through_hall} through the hall, {under_lock} under the lock")?;
+        println!(rt;
+            "{threads} threads: {through_hall} through the hall, {under_lock} under the lock"
+        )?;
         eprintln!(rt; "{threads} {hall_time} {lock_time}")?;
     }
     Ok(())

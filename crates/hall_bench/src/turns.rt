@@ -15,6 +15,7 @@ struct Numbers {
 
 impl Kept for Numbers {
     type Entry = u32;
+
     type Origin = ();
 
     ghost origin = { λ n. tt };
@@ -113,7 +114,7 @@ fn join_all(
 }
 
 /// How many numbers so many threads added through a hall, in so many turns each.
-pub fn through_hall<R: Threads + Wait + Sync>(
+pub(crate) fn through_hall<R: Threads + Wait + Sync>(
     rt: &R,
     alloc: Global,
     threads: u32,
@@ -132,17 +133,22 @@ pub fn through_hall<R: Threads + Wait + Sync>(
 }
 
 /// How many numbers so many threads added under a lock, in so many turns each.
-pub fn under_lock<R: Threads + Wait + Sync>(
+pub(crate) fn under_lock<R: Threads + Wait + Sync>(
     rt: &R,
     alloc: Global,
     threads: u32,
     turns: u32,
 ) -> Result<u64, AllocError> {
     let lock = Mutex::new(Numbers::new(alloc));
-    thread::map_indices(rt, alloc, threads as usize, &|_| {
-        for done in 0..turns {
-            lock.lock(rt).add(done);
-        }
-    })?;
+    thread::map_indices(
+        rt,
+        alloc,
+        threads as usize,
+        &|_| {
+            for done in 0..turns {
+                lock.lock(rt).add(done);
+            }
+        },
+    )?;
     Ok(lock.into_inner().items.len() as u64)
 }
