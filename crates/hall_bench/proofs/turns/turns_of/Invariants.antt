@@ -1,0 +1,5 @@
+use Rattle.std.proofs.Common.{◌≡◌}
+use Rattle.hall_bench.proofs.turns.turns_of.Given as goal
+
+abbrev pub invariant-loop-done : goal.invariant-loop-done
+invariant-loop-done g l = (l.pass.hall ≡ l.hall) × (l.pass.enters ≡ l.done)
