@@ -3,27 +3,26 @@ use Rattle.std.proofs.Common.{◌≡◌, ◌≢◌, ◌⊎◌, inl, inr, ℕ, ze
 use Rattle.std.proofs.lemmas.List.Elements.{All-map}
 use Rattle.m5_terms.specs.Expression.{Expression, leaf, unary, binary, ternary}
 use Rattle.m5_terms.specs.Substitution.{among, unary_binders, binary_binders, second_binders, third_binders}
-use Rattle.m5_meaning.specs.Machine.{asks, Comes}
-use Rattle.m5_meaning.specs.Asks.{say, take, Reply, done, nothing}
+use Rattle.m5_meaning.specs.Machine.{Comes}
+use Rattle.m5_meaning.specs.Asks.{say, take, done, nothing}
 use Rattle.m5_terms.specs.declared.types.World.{World}
 use Rattle.m5_terms.specs.declared.types.World.TheVariants.{Home, Server, Any}
 use Rattle.m5_terms.specs.declared.form.LeafForm.TheVariants as leaf_form
 use Rattle.m5_terms.specs.declared.ask.Entry.{Entry}
-use Rattle.m5_terms.specs.declared.ask.Act.TheVariants as act
 use Rattle.m5_terms.specs.declared.ask.End.TheVariants as end
 use Rattle.m5_meaning.specs.Site.{Program, Thread, Site, Item}
 use Rattle.m5_meaning.specs.Step.{site_next}
-use Rattle.m5_script.specs.Scenario.{Scenario, silent}
-use Rattle.m5_network.specs.Board.{Board, answer_of}
+use Rattle.m5_script.specs.Scenario.{silent}
+use Rattle.m5_network.specs.Board.{answer_of}
 use Rattle.m5_network.specs.Entries.{Deed, entry_of}
-use Rattle.m5_network.specs.Run.{Network, with_site, IsSite, NextAsk, Answers, Step, Run, IsAtRest, IsFinished}
+use Rattle.m5_network.specs.Run.{Network, with_site, IsSite, Step, Run, IsAtRest, IsFinished}
 use Rattle.m5_network.specs.Opening.{opening, opening_board, opening_site}
 use Rattle.m5_network.specs.Claim.{IsRunOf, has_seal, place_of, primitive_of, IsAtItsWorld, stop_count, ending}
-use Rattle.m5_first.specs.FirstSays.{Texts, no_texts, Sayings, says_of}
+use Rattle.m5_first.specs.FirstSays.{no_texts, Sayings, says_of}
 use Rattle.m5_cli.specs.First.{program_of, said_entry, history_of}
 use Rattle.m5_cli.specs.Walk.{AppendsSayings}
-use Rattle.m5_cli.proofs.Closing.{close, text_or, without}
-use Rattle.m5_cli.proofs.Steps.{Leads, with_threads, comes-trans, one, and-then}
+use Rattle.m5_cli.proofs.Closing.{close, without}
+use Rattle.m5_cli.proofs.Steps.{Leads, with_threads, one, and-then}
 use Rattle.m5_cli.proofs.Speaking.{Says, Speaks, speaks, ended}
 
 -- ---- a term is itself where its variables stand for nothing

@@ -1,7 +1,7 @@
 -- A term whose variables are replaced by the texts that they stand for.
 use Rattle.std.proofs.Common.{◌≡◌, ℕ, Bool, true, false, ◌==◌, ◌||◌, if◌then◌else◌, List, [], ◌∷◌, Option, Some, None, refl, sym, ap, ◌∙◌, subst, eqb-true}
 use Rattle.m5_terms.specs.Expression.{Expression, leaf, unary, binary, ternary}
-use Rattle.m5_terms.specs.Substitution.{substituted, substituted_leaf, unless, among, unary_binders, binary_binders, second_binders, third_binders}
+use Rattle.m5_terms.specs.Substitution.{substituted, unless, among, unary_binders, binary_binders, second_binders, third_binders}
 use Rattle.m5_terms.specs.declared.form.LeafForm.{LeafForm}
 use Rattle.m5_terms.specs.declared.form.LeafForm.TheVariants as leaf_form
 use Rattle.m5_first.specs.FirstSays.{Texts, with_text}

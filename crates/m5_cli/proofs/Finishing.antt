@@ -1,8 +1,8 @@
 -- What writing what is due leaves in the sink.
 use Rattle.std.proofs.Common.{◌≡◌, ◌⊎◌, inl, inr, ℕ, List, Option, Some, None, IfSome, refl, subst}
-use Rattle.std.specs.Io.KnownBytes.{Appends, Keeps}
+use Rattle.std.specs.Io.KnownBytes.{Appends}
 use Rattle.std.specs.declared.option.Option.{Option}
-use Rattle.m5_cli.specs.Due.{Due, TookSome, Finishes, Leaves, TookDue}
+use Rattle.m5_cli.specs.Due.{Due, Finishes, Leaves}
 use Rattle.m5_cli.specs.declared.status.Status.{Status}
 use Rattle.m5_cli.specs.declared.status.Status.TheVariants as status
 

@@ -1,11 +1,9 @@
 -- A term of the first form, closed, goes on to unit and asks to say its texts on the way.
-use Rattle.std.proofs.Common.{◌≡◌, ℕ, zero, suc, List, [], ◌∷◌, ◌++◌, Option, Some, None, refl, sym, ap, ◌∙◌, subst}
-use Rattle.std.specs.Option.{option_map}
+use Rattle.std.proofs.Common.{◌≡◌, ℕ, List, [], ◌∷◌, ◌++◌, Option, Some, None, refl, ◌∙◌, subst}
 use Rattle.m5_terms.specs.Expression.{Expression, leaf, unary, binary, ternary}
-use Rattle.m5_meaning.specs.Machine.{Next, goes, asks, wrong, Comes}
-use Rattle.m5_meaning.specs.Asks.{Query, say, Reply, done}
+use Rattle.m5_meaning.specs.Machine.{asks, Comes}
+use Rattle.m5_meaning.specs.Asks.{say, Reply, done}
 use Rattle.m5_terms.specs.declared.types.World.{World}
-use Rattle.m5_terms.specs.declared.types.Primitive.{Primitive}
 use Rattle.m5_terms.specs.declared.types.Primitive.TheVariants as primitive
 use Rattle.m5_terms.specs.declared.form.LeafForm.{LeafForm}
 use Rattle.m5_terms.specs.declared.form.LeafForm.TheVariants as leaf_form
@@ -13,12 +11,12 @@ use Rattle.m5_terms.specs.declared.form.BinaryForm.{BinaryForm}
 use Rattle.m5_terms.specs.declared.form.BinaryForm.TheVariants as binary_form
 use Rattle.m5_terms.specs.declared.thread.Frame.{Frame}
 use Rattle.m5_terms.specs.declared.thread.Frame.TheVariants.{Part}
-use Rattle.m5_terms.specs.declared.thread.Focus.TheVariants.{Eval, Returned}
+use Rattle.m5_terms.specs.declared.thread.Focus.TheVariants.{Returned}
 use Rattle.m5_meaning.specs.Site.{Program, Thread, Site, Item}
 use Rattle.m5_meaning.specs.Reduction.{unit_value}
 use Rattle.m5_meaning.specs.Step.{site_next, thread_of}
 use Rattle.m5_first.specs.FirstSays.{Texts, with_text, text_of, both, Sayings, says_leaf, said, says_with, says_binary, says_of}
-use Rattle.m5_cli.proofs.Closing.{close, text_value, without, substituted-close}
+use Rattle.m5_cli.proofs.Closing.{close, substituted-close}
 use Rattle.m5_cli.proofs.Steps.{Leads, with_threads, after_step, comes-trans, one, and-then, eval, back}
 use Rattle.m5_cli.proofs.Texts.{Evaluates, evaluates}
 

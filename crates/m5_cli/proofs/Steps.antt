@@ -1,24 +1,20 @@
 -- Local steps of a site's front thread while it evaluates a text.
-use Rattle.std.proofs.Common.{◌≡◌, ℕ, zero, suc, ◌+◌, Bool, true, false, List, [], ◌∷◌, ◌++◌, length, Option, Some, None, refl, sym, ap, ◌∙◌, subst}
+use Rattle.std.proofs.Common.{◌≡◌, ℕ, zero, suc, ◌+◌, List, ◌∷◌, ◌++◌, length, Some, refl, sym, ◌∙◌, subst}
 use Rattle.std.specs.Fmt.{signed_decimal}
-use Rattle.m5_terms.specs.Expression.{Expression, leaf, unary, binary, ternary}
-use Rattle.m5_meaning.specs.Machine.{Next, goes, asks, wrong, Comes}
+use Rattle.m5_terms.specs.Expression.{Expression, leaf, unary, binary}
+use Rattle.m5_meaning.specs.Machine.{goes, Comes}
 use Rattle.m5_terms.specs.declared.types.World.{World}
 use Rattle.m5_terms.specs.declared.types.Op.TheVariants as op
-use Rattle.m5_terms.specs.declared.form.LeafForm.{LeafForm}
 use Rattle.m5_terms.specs.declared.form.LeafForm.TheVariants as leaf_form
-use Rattle.m5_terms.specs.declared.form.UnaryForm.{UnaryForm}
 use Rattle.m5_terms.specs.declared.form.UnaryForm.TheVariants as unary_form
-use Rattle.m5_terms.specs.declared.form.BinaryForm.{BinaryForm}
 use Rattle.m5_terms.specs.declared.form.BinaryForm.TheVariants as binary_form
 use Rattle.m5_terms.specs.declared.thread.Frame.{Frame}
-use Rattle.m5_terms.specs.declared.thread.Frame.TheVariants.{Part, Return}
-use Rattle.m5_terms.specs.declared.thread.Focus.{Focus}
+use Rattle.m5_terms.specs.declared.thread.Frame.TheVariants.{Part}
 use Rattle.m5_terms.specs.declared.thread.Focus.TheVariants.{Eval, Returned}
 use Rattle.m5_meaning.specs.Site.{Program, Thread, Site}
 use Rattle.m5_meaning.specs.Step.{site_next, thread_of, step_weight}
-use Rattle.m5_first.specs.FirstSays.{Texts, text_of, leaf_text, unary_text, number_text, binary_text, both}
-use Rattle.m5_cli.proofs.Closing.{close, text_value, text_or}
+use Rattle.m5_first.specs.FirstSays.{number_text}
+use Rattle.m5_cli.proofs.Closing.{text_value}
 
 abbrev pub with_threads : Site → List Thread → Site
 with_threads s ts = record s { threads = ts }

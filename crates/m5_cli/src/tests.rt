@@ -25,25 +25,23 @@ fn run(
 #[test]
 fn answers_each_input(rt: HostRuntime) -> Result<(), Fail> {
     let alloc = rt.alloc();
-    let cases: [(&[u8], u8, &[u8]); 8] = [
+    let cases: [(&[u8], u8, &[u8]); 10] = [
         (HI, 0, b"1 home say \"hi\"\nrest\n"),
         (
-            b"extern val say : string -> unit @ home main = say (* nested (* c *) *) \"a\\n\"",
+            b"extern val say : string -> unit @ home main = let val a = \"x\" ^ str 7 do say (a ^ \"y\") in say a end",
             0,
-            b"1 home say \"a\\n\"\nrest\n",
+            b"1 home say \"x7y\"\n1 home say \"x7\"\nrest\n",
+        ),
+        (
+            b"main = ( (* nothing is said *) )\n%%\r\n# a remark\n\nsessions 1",
+            0,
+            b"rest\n",
         ),
         (b"", 11, b"refused unbuilt\n"),
         (b"main = say \"hi\"", 11, b"refused unbuilt\n"),
-        (
-            b"extern val say : string -> unit @ home\nmain = say \"hi",
-            11,
-            b"refused unbuilt\n",
-        ),
-        (
-            b"extern val say : string -> unit @ home\nmain = say \"hi\"\n%%\nsessions 2\n",
-            11,
-            b"refused unbuilt\n",
-        ),
+        (b"main = let val x = \"cut", 11, b"refused unbuilt\n"),
+        (b"main = ()\n%%\nsessions 2\n", 11, b"refused unbuilt\n"),
+        (b"main = ()\n%%\nsteps 50000\n", 11, b"refused unbuilt\n"),
         (b"\xff", 11, b"refused unbuilt\n"),
         (
             b"main = case from server get read \"k\" of inl u => say \"none\" | inr s => say s end",
