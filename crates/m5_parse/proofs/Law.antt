@@ -1,8 +1,8 @@
 -- How a reading with look-ahead ends is how it should.
-use Rattle.std.proofs.Common.{◌≡◌, ℕ, Bool, true, false, ◌==◌, List, [], ◌∷◌, ◌++◌, length, refl, sym, ◌∙◌, ap, subst, ◌⊎◌, inl, inr, arith}
-use Rattle.std.proofs.lemmas.Bool.{false≢true, both_ways}
+use Rattle.std.proofs.Common.{◌≡◌, ℕ, Bool, true, List, [], ◌∷◌, ◌++◌, length, refl, sym, ◌∙◌, ap}
+use Rattle.std.proofs.lemmas.Bool.{false≢true}
 use Rattle.m5_tree.specs.Kinds.{code_of, token_code}
-use Rattle.m5_parse.specs.Kinds.{among, leads, code_at, tests}
+use Rattle.m5_parse.specs.Kinds.{leads, code_at, tests}
 use Rattle.m5_tree.specs.Reading.{State, Reads, done, token, acts, rule, shift, act}
 use Rattle.m5_parse.specs.Machine.{Outcome, Accepted, Refused, TooDeep, Ends, accepted, more, shifted, deep, other, acted, chosen}
 use Rattle.m5_parse.specs.Rows.{choose}
@@ -15,7 +15,7 @@ use Rattle.m5_tree.specs.Program.{AreOfText}
 use Rattle.m5_lex.specs.declared.tokens.Placed.{Placed}
 use Rattle.m5_tree.specs.Program.{AreOfText}
 use Rattle.m5_parse.proofs.Theory.{Good, Agree, by_choice, some_choice, good_choice, among_one}
-use Rattle.m5_parse.proofs.Words.{Word, word_of}
+use Rattle.m5_parse.proofs.Words.{word_of}
 
 -- With so many tokens left no end is possible that begins as they do; some end is possible.
 pub record Stands (ss : List Symbol) (ts : List Placed) (s : State) (n : ℕ) : Type 0 where

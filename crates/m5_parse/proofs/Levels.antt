@@ -1,10 +1,7 @@
 -- The level at each token that is read.
-use Rattle.std.proofs.Common.{◌≡◌, ℕ, ◌+◌, ◌<◌, ◌≤◌, Bool, List, [], ◌∷◌, ◌++◌, length, refl, sym, ◌∙◌, ap, subst, inl, inr, arith, length-append}
-use Rattle.std.proofs.lemmas.Bool.{and_parts}
-use Rattle.m5_tree.specs.Kinds.{code_of}
-use Rattle.m5_parse.specs.Kinds.{leads, code_at}
-use Rattle.m5_tree.specs.Reading.{State, Reads, done, token, acts, rule, OneOf, act, shift, limit}
-use Rattle.m5_tree.specs.Productions.{alternatives}
+use Rattle.std.proofs.Common.{◌≡◌, ℕ, ◌<◌, ◌≤◌, Bool, List, [], ◌∷◌, ◌++◌, length, refl, sym, ◌∙◌, ap, subst, arith, length-append}
+use Rattle.m5_parse.specs.Kinds.{code_at}
+use Rattle.m5_tree.specs.Reading.{State, Reads, token, acts, rule, act, shift, limit}
 use Rattle.m5_tree.specs.Level.{Arrives, here, beyond, by_act, by_rule}
 use Rattle.m5_parse.specs.Machine.{Outcome, Accepted, Refused, TooDeep, Ends, accepted, more, shifted, deep, other, acted, chosen}
 use Rattle.m5_parse.specs.Rows.{choose}

@@ -1,16 +1,15 @@
 -- What is said of a reading, said of a program.
-use Rattle.std.proofs.Common.{◌≡◌, ℕ, Option, Some, None, Ok, Err, List, [], ◌∷◌, ◌++◌, length, refl, sym, ◌∙◌, ap, subst, append_assoc}
+use Rattle.std.proofs.Common.{◌≡◌, ℕ, Some, None, List, [], ◌∷◌, ◌++◌, length, refl, sym, ◌∙◌, ap, subst, append_assoc}
 use Rattle.m5_lex.specs.declared.place.Place.{Place}
 use Rattle.m5_lex.specs.declared.tokens.Placed.{Placed}
 use Rattle.m5_tree.specs.Reading.{State, Reads, at_start}
-use Rattle.m5_tree.specs.Program.{IsProgram, IsFront, IsFault, place_of}
-use Rattle.m5_tree.specs.Level.{NoneDeep, IsFirstDeep}
+use Rattle.m5_tree.specs.Program.{IsProgram, IsFault, place_of}
+use Rattle.m5_tree.specs.Level.{NoneDeep}
 use Rattle.m5_tree.specs.Values.{whole}
 use Rattle.m5_tree.specs.declared.tree.Program.{Program}
 use Rattle.m5_tree.specs.declared.tree.Tree.{Tree}
 use Rattle.m5_tree.specs.declared.value.Value.{Value}
 use Rattle.m5_tree.specs.declared.value.Value.TheVariants as value
-use Rattle.m5_tree.specs.declared.grammar.Symbol.{Symbol}
 use Rattle.m5_tree.specs.declared.grammar.Symbol.TheVariants.{Nt}
 use Rattle.m5_tree.specs.declared.grammar.Phrase.TheVariants as phrase
 use Rattle.m5_parse.specs.Kinds.{code_at}

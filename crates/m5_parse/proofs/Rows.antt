@@ -1,5 +1,5 @@
 -- The table's rows are picked as the productions are.
-use Rattle.std.proofs.Common.{◌≡◌, Bool, cond, List, [], ◌∷◌, map, refl, ap}
+use Rattle.std.proofs.Common.{◌≡◌, cond, List, [], ◌∷◌, map, refl, ap}
 use Rattle.m5_lex.specs.declared.tokens.Placed.{Placed}
 use Rattle.m5_tree.specs.declared.grammar.Symbol.{Symbol}
 use Rattle.m5_parse.specs.Kinds.{leads}

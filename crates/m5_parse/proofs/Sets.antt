@@ -1,11 +1,9 @@
 -- Sets of kinds, as lists.
-use Rattle.std.proofs.Common.{◌≡◌, ℕ, Bool, true, false, cond, not, ◌&&◌, ◌||◌, ◌==◌, List, [], ◌∷◌, ◌++◌, refl, sym, ◌∙◌, ap, ◌⊎◌, inl, inr, arith}
-use Rattle.std.proofs.lemmas.Bool.{or_cases, and_parts, both_ways, not-true, eqb-true, eq-eqb, false≢true}
-use Rattle.std.specs.List.{list_any}
+use Rattle.std.proofs.Common.{◌≡◌, ℕ, Bool, true, false, not, ◌||◌, ◌==◌, List, [], ◌∷◌, ◌++◌, refl, ◌⊎◌, inl, inr}
+use Rattle.std.proofs.lemmas.Bool.{or_cases, and_parts, both_ways, not-true, eqb-true, false≢true}
 use Rattle.m5_tree.specs.Kinds.{code_of}
-use Rattle.m5_parse.specs.Kinds.{among, leads}
+use Rattle.m5_parse.specs.Kinds.{among}
 use Rattle.m5_tree.specs.declared.grammar.Kind.{Kind}
-use Rattle.m5_lex.specs.declared.tokens.Placed.{Placed}
 use Rattle.m5_parse.proofs.Tables.{within, apart}
 
 pub or_left : (x y : Bool) → x ≡ true → (x || y) ≡ true

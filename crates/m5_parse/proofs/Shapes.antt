@@ -1,5 +1,5 @@
 -- The values of each phrase are of the sort that the productions around it want.
-use Rattle.std.proofs.Common.{◌≡◌, ℕ, ◌≤◌, ◌+◌, ◌==◌, nat_lt, Bool, true, false, cond, if◌then◌else◌, Option, Some, None, List, [], ◌∷◌, ◌++◌, refl, sym, ◌∙◌, ap, subst, ◌⊎◌, inl, inr, arith}
+use Rattle.std.proofs.Common.{◌≡◌, ℕ, ◌≤◌, ◌+◌, nat_lt, Bool, true, false, cond, if◌then◌else◌, Option, Some, None, List, [], ◌∷◌, ◌++◌, refl, sym, ◌∙◌, ap, subst, inl, inr, arith}
 use Rattle.std.proofs.lemmas.Bool.{le-ltb}
 use Rattle.m5_lex.specs.declared.place.Place.{Place}
 use Rattle.m5_lex.specs.declared.token.Token.{Token}
@@ -7,24 +7,17 @@ use Rattle.m5_lex.specs.declared.token.Token.TheVariants as lex
 use Rattle.m5_lex.specs.declared.tokens.Placed.{Placed}
 use Rattle.m5_tree.specs.Kinds.{code_of, token_code}
 use Rattle.m5_tree.specs.Values.{◌>>=◌}
-use Rattle.m5_tree.specs.DeclarationMaking.{declaration_made}
-use Rattle.m5_tree.specs.WrittenMaking.{written_made}
-use Rattle.m5_tree.specs.ExprMaking.{expr_made}
 use Rattle.m5_tree.specs.Making.{made}
 use Rattle.m5_tree.specs.Productions.{alternatives}
-use Rattle.m5_tree.specs.Reading.{State, Reads, done, token, acts, rule, OneOf, put, act, shift, value_of}
+use Rattle.m5_tree.specs.Reading.{State, Reads, done, token, acts, rule, OneOf, put, value_of}
 use Rattle.m5_tree.specs.declared.tree.Program.{Program}
 use Rattle.m5_tree.specs.declared.value.Value.{Value}
 use Rattle.m5_tree.specs.declared.value.Value.TheVariants as value
-use Rattle.m5_tree.specs.declared.grammar.Kind.{Kind}
 use Rattle.m5_tree.specs.declared.grammar.Symbol.{Symbol}
 use Rattle.m5_tree.specs.declared.grammar.Symbol.TheVariants.{Tok, Nt, Act}
 use Rattle.m5_tree.specs.declared.grammar.Phrase.{Phrase}
 use Rattle.m5_tree.specs.declared.grammar.Phrase.TheVariants as phrase
-use Rattle.m5_tree.specs.declared.grammar.Action.{Action}
 use Rattle.m5_tree.specs.declared.grammar.Action.TheVariants.{Enter, Leave, Pass, Make}
-use Rattle.m5_tree.specs.declared.grammar.Form.{Form}
-use Rattle.m5_tree.specs.declared.grammar.Form.TheVariants.{Declare, Write, Build}
 use Rattle.m5_parse.proofs.Sorts.{Sort, M, N, I, L, W, Y, E, S, D, P, sort, sorts, fit, form_fine, Fine}
 
 abbrev pub through : Phrase → List Sort → Option (List Sort)

@@ -4,7 +4,7 @@ use Rattle.std.proofs.lemmas.Bool.{eqb-true, or_cases, false≢true}
 use Rattle.m5_tree.specs.Kinds.{code_of, token_code}
 use Rattle.m5_parse.specs.Kinds.{leads}
 use Rattle.m5_tree.specs.Reading.{State, shift, act, limit}
-use Rattle.m5_parse.specs.Machine.{Outcome, Accepted, Refused, TooDeep, Ends, accepted, more, shifted, deep, other, acted, chosen}
+use Rattle.m5_parse.specs.Machine.{Outcome, Accepted, Refused, TooDeep, Ends, accepted, more, shifted, deep, acted, chosen}
 use Rattle.m5_parse.specs.Rows.{choose}
 use Rattle.m5_parse.specs.Work.{work}
 use Rattle.m5_tree.specs.declared.grammar.Symbol.{Symbol}

@@ -1,16 +1,14 @@
 -- What the tables say of each other, by computing.
-use Rattle.std.proofs.Common.{◌≡◌, ℕ, Bool, true, false, cond, not, ◌&&◌, ◌||◌, List, [], ◌∷◌, ◌++◌, refl, ◌⊎◌, inl, inr}
+use Rattle.std.proofs.Common.{◌≡◌, Bool, true, not, ◌&&◌, ◌||◌, List, [], ◌∷◌, ◌++◌, refl}
 use Rattle.m5_tree.specs.Kinds.{code_of}
-use Rattle.m5_parse.specs.Kinds.{among, leads}
+use Rattle.m5_parse.specs.Kinds.{among}
 use Rattle.m5_tree.specs.Productions.{alternatives}
-use Rattle.m5_tree.specs.Reading.{OneOf}
 use Rattle.m5_parse.specs.First.{first, nullable}
 use Rattle.m5_parse.specs.After.{extends}
 use Rattle.m5_parse.specs.Rows.{begins, nulls}
 use Rattle.m5_tree.specs.declared.grammar.Symbol.{Symbol}
 use Rattle.m5_tree.specs.declared.grammar.Symbol.TheVariants.{Tok, Nt, Act}
 use Rattle.m5_tree.specs.declared.grammar.Phrase.{Phrase}
-use Rattle.m5_tree.specs.declared.grammar.Action.{Action}
 use Rattle.m5_tree.specs.declared.grammar.Phrase.TheVariants as phrase
 use Rattle.m5_tree.specs.declared.grammar.Kind.{Kind}
 

@@ -1,9 +1,9 @@
 -- Reading with one token of look-ahead is reading.
-use Rattle.std.proofs.Common.{◌≡◌, ℕ, ◌+◌, ◌<◌, ◌≤◌, Bool, true, false, cond, not, ◌&&◌, ◌||◌, ◌==◌, List, [], ◌∷◌, ◌++◌, length, refl, sym, ◌∙◌, ap, subst, ◌⊎◌, inl, inr, arith}
-use Rattle.std.proofs.lemmas.Bool.{or_cases, and_parts, and_from, both_ways, not-true, cases_Bool, false≢true, eq-eqb}
+use Rattle.std.proofs.Common.{◌≡◌, ℕ, Bool, true, false, cond, not, ◌&&◌, ◌||◌, ◌==◌, List, [], ◌∷◌, ◌++◌, refl, ◌∙◌, ap, ◌⊎◌, inl, inr}
+use Rattle.std.proofs.lemmas.Bool.{and_parts, and_from, both_ways, not-true, false≢true, eq-eqb}
 use Rattle.m5_tree.specs.Kinds.{code_of, token_code}
 use Rattle.m5_parse.specs.Kinds.{among, leads, code_at, tests}
-use Rattle.m5_tree.specs.Reading.{State, OneOf, Reads, done, token, acts, rule, shift, act}
+use Rattle.m5_tree.specs.Reading.{State, OneOf, Reads, done, token, acts, rule}
 use Rattle.m5_tree.specs.Productions.{alternatives}
 use Rattle.m5_parse.specs.First.{first, nullable}
 use Rattle.m5_parse.specs.After.{extends}
@@ -11,12 +11,11 @@ use Rattle.m5_parse.specs.Rows.{begins, nulls, pick, choose}
 use Rattle.m5_tree.specs.declared.grammar.Symbol.{Symbol}
 use Rattle.m5_tree.specs.declared.grammar.Symbol.TheVariants.{Tok, Nt, Act}
 use Rattle.m5_tree.specs.declared.grammar.Phrase.{Phrase}
-use Rattle.m5_tree.specs.declared.grammar.Action.{Action}
 use Rattle.m5_tree.specs.declared.grammar.Phrase.TheVariants as phrase
 use Rattle.m5_tree.specs.declared.grammar.Kind.{Kind}
 use Rattle.m5_lex.specs.declared.tokens.Placed.{Placed}
 use Rattle.m5_parse.proofs.Tables.{within, apart, begins_all, first_fits, told_apart, ends_well, all_end_well, checked}
-use Rattle.m5_parse.proofs.Sets.{or_left, or_right, among-append, among-left, among-right, among-within, among-apart}
+use Rattle.m5_parse.proofs.Sets.{or_left, among-append, among-left, among-right, among-within, among-apart}
 
 -- What follows each pending phrase does not belong to it.
 abbrev pub Good : List Symbol → Type 0

@@ -1,5 +1,5 @@
 -- Tokens are read to one end.
-use Rattle.std.proofs.Common.{◌≡◌, List, [], ◌∷◌, ◌++◌, refl, sym, ◌∙◌, subst}
+use Rattle.std.proofs.Common.{◌≡◌, List, ◌++◌, refl, sym, ◌∙◌, subst}
 use Rattle.m5_lex.specs.declared.tokens.Placed.{Placed}
 use Rattle.m5_tree.specs.Reading.{State, Reads, done, token, acts, rule}
 use Rattle.m5_tree.specs.declared.grammar.Symbol.{Symbol}

@@ -1,5 +1,5 @@
 -- Each sequence of symbols has tokens that it reads.
-use Rattle.std.proofs.Common.{◌≡◌, ℕ, zero, suc, ◌-◌, ◌<◌, ◌≤◌, nat_lt, arith, lit<, lit≤, if◌then◌else◌, Bool, List, [], ◌∷◌, ◌++◌, refl, ◌⊎◌, inl, inr}
+use Rattle.std.proofs.Common.{◌≡◌, ℕ, zero, suc, ◌-◌, nat_lt, arith, lit<, lit≤, if◌then◌else◌, List, [], ◌∷◌, ◌++◌, refl, inl, inr}
 use Rattle.std.specs.List.{AllPass}
 use Rattle.m5_lex.specs.Alphabet.{is_name_byte, keywords, symbols}
 use Rattle.m5_lex.specs.Token.{IsToken}
@@ -14,7 +14,6 @@ use Rattle.m5_tree.specs.Productions.{alternatives}
 use Rattle.m5_tree.specs.declared.grammar.Symbol.{Symbol}
 use Rattle.m5_tree.specs.declared.grammar.Symbol.TheVariants.{Tok, Nt, Act}
 use Rattle.m5_tree.specs.declared.grammar.Phrase.{Phrase}
-use Rattle.m5_tree.specs.declared.grammar.Action.{Action}
 use Rattle.m5_tree.specs.declared.grammar.Phrase.TheVariants as phrase
 use Rattle.m5_lex.specs.declared.tokens.Placed.{Placed}
 

@@ -1,9 +1,9 @@
 -- Each step leaves less to do.
-use Rattle.std.proofs.Common.{◌≡◌, ℕ, ◌+◌, ◌*◌, ◌-◌, ◌<◌, ◌≤◌, Bool, true, false, cond, ◌&&◌, nat_lt, ◌⊎◌, inl, inr, List, [], ◌∷◌, ◌++◌, length, refl, sym, ap, arith}
+use Rattle.std.proofs.Common.{◌≡◌, ℕ, ◌+◌, ◌*◌, ◌-◌, ◌<◌, ◌≤◌, Bool, true, ◌&&◌, nat_lt, inl, inr, List, [], ◌∷◌, ◌++◌, length, refl, arith}
 use Rattle.std.proofs.lemmas.Bool.{and_parts, ltb-true}
 use Rattle.m5_tree.specs.Productions.{alternatives}
 use Rattle.m5_tree.specs.Reading.{OneOf}
-use Rattle.m5_parse.specs.Rows.{begins, choose, pick}
+use Rattle.m5_parse.specs.Rows.{choose}
 use Rattle.m5_parse.specs.Work.{credit, lead, rank, weight, work}
 use Rattle.m5_parse.proofs.Theory.{some_choice}
 use Rattle.m5_tree.specs.declared.grammar.Symbol.{Symbol}

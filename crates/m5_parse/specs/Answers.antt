@@ -2,7 +2,7 @@
 use Rattle.std.specs.Prelude.{◌≡◌, List, length, Result, Ok, Err}
 use Rattle.m5_lex.specs.declared.place.Place.{Place}
 use Rattle.m5_lex.specs.declared.tokens.Placed.{Placed}
-use Rattle.m5_tree.specs.Program.{IsFault, IsProgram, place_of}
+use Rattle.m5_tree.specs.Program.{IsFault, place_of}
 use Rattle.m5_tree.specs.Level.{IsFirstDeep, NoneDeep}
 use Rattle.m5_tree.specs.declared.tree.Tree.{Tree}
 use Rattle.m5_parse.specs.declared.parse.ParseEnd.{ParseEnd}

@@ -1,7 +1,5 @@
 -- With which kinds of token each phrase begins, and which of those that follow it would still belong to it.
-use Rattle.std.specs.Prelude.{Bool, true, false, cond, ◌&&◌, List, [], ◌∷◌, ◌++◌}
-use Rattle.m5_tree.specs.declared.grammar.Symbol.{Symbol}
-use Rattle.m5_tree.specs.declared.grammar.Symbol.TheVariants.{Tok, Nt, Act}
+use Rattle.std.specs.Prelude.{Bool, true, false, List, [], ◌∷◌}
 use Rattle.m5_tree.specs.declared.grammar.Kind.{Kind}
 use Rattle.m5_tree.specs.declared.grammar.Kind.TheVariants as kind
 use Rattle.m5_tree.specs.declared.grammar.Phrase.{Phrase}

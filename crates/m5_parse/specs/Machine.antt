@@ -1,5 +1,5 @@
 -- The same tokens read with one token of look-ahead.
-use Rattle.std.specs.Prelude.{◌≡◌, ℕ, ◌+◌, ◌*◌, ◌-◌, ◌≤◌, ◌<◌, Bool, false, List, [], ◌∷◌, ◌++◌, length}
+use Rattle.std.specs.Prelude.{◌≡◌, ℕ, ◌≤◌, ◌<◌, Bool, false, List, [], ◌∷◌, ◌++◌, length}
 use Rattle.m5_lex.specs.declared.tokens.Placed.{Placed}
 use Rattle.m5_tree.specs.Kinds.{code_of, token_code}
 use Rattle.m5_tree.specs.Reading.{State, shift, act, limit}

@@ -1,4 +1,3 @@
-use Rattle.std.proofs.Common.{rules, arith}
 use Rattle.m5_parse.proofs.Steps.{phrase_on, phrase_lighter, act_on}
 use Rattle.m5_parse.proofs.machine.step.Goals as goal
 

@@ -1,4 +1,4 @@
-use Rattle.std.proofs.Common.{rules, arith, refl, sym, ◌∙◌}
+use Rattle.std.proofs.Common.{rules, arith, sym, ◌∙◌}
 use Rattle.m5_parse.specs.Machine.{other}
 use Rattle.m5_parse.proofs.Steps.{take_deep, take_on}
 use Rattle.m5_parse.proofs.machine.take.Goals as goal
