@@ -5,6 +5,7 @@ ghost use mathlib.Core.List.{IsPrefix};
 ghost use Rattle.m5_hall.specs.Steps.{with_more};
 ghost use Rattle.m5_hall.specs.Passes.{first_pass, split_from, split_off, entering, joined_with, IsWhole};
 
+use crate::bells::Bells;
 use crate::kept::Kept;
 use crate::mine::{Drawn, Mine};
 use crate::pass::Pass;
@@ -22,6 +23,7 @@ use std::sync::Wait;
 #[derive(Drop)]
 pub struct Hall<T: Kept> {
     pub(crate) table: Table<Option<T>, View<T::Entry, T::Origin>, Snapshot<T>, Law<T>, Global>,
+    pub(crate) bells: Bells,
 }
 
 impl<T: Kept> Model for Hall<T> {
@@ -43,6 +45,7 @@ impl<T: Kept> Hall<T> {
         requires { T.history value ≡ [] }
         ensures { IfOk result (λ r. r.1 ≡ first_pass r.0 (T.origin value)) }
     {
+        let bells = Bells::hang(alloc)?;
         let about = Snapshot::of(&value);
         let mut slots = Vec::with_capacity(alloc, 1)?;
         slots.push(Some(value))?;
@@ -55,7 +58,7 @@ impl<T: Kept> Hall<T> {
             enters: 0,
             count: 0,
         };
-        Ok((Hall { table }, pass))
+        Ok((Hall { table, bells }, pass))
     }
 
     /// Splits off a pass that has seen as much and made no entries.
@@ -170,7 +173,7 @@ impl<T: Kept> Hall<T> {
         ensures drawn { IfErr result (λ d. (d.served < d.drawn) × (IsWhole pass → ⊥)) }
     {
         let known = Snapshot::of(&pass);
-        let Hall { table } = self;
+        let Hall { table, bells: _ } = self;
         let Pass {
             seat,
             splits_left: _,

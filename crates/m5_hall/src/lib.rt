@@ -1,6 +1,7 @@
 //! A ticket lock whose history is known: which entries the kept value's history has, and which pass made each.
 #![tactic(auto)]
 
+mod bells;
 mod hall;
 mod kept;
 mod mine;

@@ -9,7 +9,6 @@ use crate::views::{DoneWithNone, DoneWithOne, Draw, Look, View};
 use atomic_table::Seat;
 use std::hint;
 use std::sync::Wait;
-use std::time::Duration;
 
 // The word that has the next ticket, and the word that has the ticket that is served.
 const NEXT: usize = 0;
@@ -18,12 +17,6 @@ const SERVED: usize = 1;
 
 // How often a pass looks before it sleeps.
 const LOOKS: u32 = 64;
-
-// A pass sleeps no longer than this at a time, whoever is woken.
-const SLEEP_MILLIS: u64 = 20;
-
-// Sleeping compares these bits of a word alone.
-const LOW_BITS: u64 = 0xffff_ffff;
 
 pub(crate) type Place<T> = Seat<Option<T>, View<<T as Kept>::Entry, <T as Kept>::Origin>>;
 
@@ -41,7 +34,7 @@ impl<T: Kept> Hall<T> {
     }
 
     // Looks until the ticket is served, and takes the slot.
-    // A pass sleeps while another is served. A wake that was meant for another is passed on, but not to one that has slept through no change.
+    // It asks for the bell before it looks, so that no ring comes between the look and the sleep.
     pub(crate) fn wait<R: Wait>(&self, rt: &R, seat: &mut Place<T>, ticket: u64)
         requires hall { seat.old.table_id ≡ self.now }
         requires waits { seat.old.me.0.stage ≡ Waiting ticket }
@@ -49,9 +42,8 @@ impl<T: Kept> Hall<T> {
         ensures served { Serves T.history T.origin ticket seat.old.me seat.new.me }
     {
         let mut looks_left = LOOKS;
-        let mut slept = false;
-        let mut slept_at = 0;
         for _ in rt.forever() {
+            let heard = self.bells.heard(ticket);
             let served = self.table.shared.load::<Look>(seat, SERVED);
             if served == ticket {
                 return;
@@ -61,23 +53,16 @@ impl<T: Kept> Hall<T> {
                 hint::spin_loop();
                 continue;
             }
-            if slept && slept_at != served {
-                self.table.shared.wake_one(SERVED);
-            }
-            let low = (served & LOW_BITS) as u32;
-            self.table
-                .shared
-                .park_timeout(rt, SERVED, low, Duration::from_millis(SLEEP_MILLIS));
-            slept_at = served;
-            slept = true;
+            self.bells.sleep(rt, ticket, heard);
         }
         unreachable!()
     }
 
-    // Wakes a pass that sleeps, where one has drawn a ticket behind this one.
+    // Wakes the pass that is next, where one has drawn a ticket behind this one.
     fn call_next(&self, ticket: u64) {
-        if self.table.shared.peek(NEXT) != ticket.wrapping_add(1) {
-            self.table.shared.wake_one(SERVED);
+        let next = ticket.wrapping_add(1);
+        if self.table.shared.peek(NEXT) != next {
+            self.bells.ring(next);
         }
     }
 
