@@ -1,0 +1,5 @@
+pub mod Resolved
+pub mod TermMeaning
+pub mod Opened
+pub mod InText
+pub mod RawTerm
