@@ -1,0 +1,8 @@
+pub mod Tables
+pub mod Counting
+pub mod Whole
+pub mod Measures
+pub mod Raws
+pub mod Spine
+pub mod Externs
+pub mod Declaring

@@ -1,0 +1,14 @@
+//! The names of a program resolved: each binder has a number of its own.
+#![tactic(auto)]
+
+mod declare;
+pub mod end;
+mod expression;
+mod forms;
+pub mod meaning;
+mod places;
+pub mod resolve;
+#[cfg(test)]
+mod tests;
+pub mod tuple;
+mod written;
