@@ -3,3 +3,5 @@ pub mod Scanning
 pub mod Numbers
 pub mod Lexemes
 pub mod Taking
+pub mod Spelled
+pub mod Showing

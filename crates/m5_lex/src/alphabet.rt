@@ -1,6 +1,7 @@
 //! The bytes, keywords and symbols of the lexical form.
 
-ghost use Rattle.std.specs.Prelude.{◌≡◌, ◌<◌, ◌+◌, map, length, IfSome};
+ghost use Rattle.std.specs.Prelude.{◌≡◌, ◌<◌, ◌+◌, [], map, length, IfSome};
+ghost use Rattle.std.specs.List.{slice_index_or};
 ghost use Rattle.m5_lex.specs.Alphabet.{is_blank, is_letter, is_digit, is_name_byte, is_plain, escape, keywords, symbols, place_of};
 
 const KEYWORDS: [&[u8]; 44] = [
@@ -95,4 +96,30 @@ pub(crate) fn symbol(sign: &[u8]) -> Option<u8>
         Some(place) => Some(place as u8),
         None => None,
     }
+}
+
+/// The word at a place in a list of words.
+fn word_at(words: &'static [&'static [u8]], place: u8) -> &'static [u8]
+    requires { place < length words.now }
+    ensures { result.now ≡ slice_index_or (map (λ w. w.now) words.now) place [] }
+{
+    words[place as usize]
+}
+
+/// The keyword at a place.
+#[tactic(auto, unfolding(crate::specs::Alphabet::keywords))]
+pub(crate) fn keyword_at(place: u8) -> &'static [u8]
+    requires { place < length keywords }
+    ensures { result.now ≡ slice_index_or keywords place [] }
+{
+    word_at(&KEYWORDS, place)
+}
+
+/// The symbol at a place.
+#[tactic(auto, unfolding(crate::specs::Alphabet::symbols))]
+pub(crate) fn symbol_at(place: u8) -> &'static [u8]
+    requires { place < length symbols }
+    ensures { result.now ≡ slice_index_or symbols place [] }
+{
+    word_at(&SYMBOLS, place)
 }

@@ -5,11 +5,13 @@ mod alphabet;
 pub mod lexed;
 mod lexeme;
 pub mod place;
+pub mod shown;
 pub mod token;
 pub mod tokens;
 
 pub use lexed::{LexEnd, lex};
 pub use place::Place;
+pub use shown::show;
 pub use token::Token;
 pub use tokens::Tokens;
 

@@ -105,3 +105,46 @@ fn each_byte_alone(rt: HostRuntime) -> Result<(), Fail> {
     assert_eq!(rt; tokens, 78);
     Ok(())
 }
+
+/// The tokens of a text as they are shown, or the fault, in words.
+fn shown_again(alloc: Global, text: &[u8]) -> Result<String, AllocError> {
+    if text.len() > 300_000 {
+        return String::from_str(alloc, "long");
+    }
+    match lex(alloc, text) {
+        Ok(tokens) => String::from_utf8_lossy(alloc, show(alloc, &tokens)?.bytes()),
+        Err(_) => String::from_str(alloc, "fault"),
+    }
+}
+
+#[test]
+fn shown_texts(rt: HostRuntime) -> Result<(), Fail> {
+    let cases: [(&[u8], &str); 9] = [
+        (b"", ""),
+        (b" (* c *) ", ""),
+        (b"main = ( (* c *) )", "main = ( )\n"),
+        (
+            b"extern val say:string->unit@home fun f(x:int)=x+1 main=f 1",
+            "extern val say : string -> unit @ home\nfun f ( x : int ) = x + 1\nmain = f 1\n",
+        ),
+        (
+            b"extern val fun main fn rec let in end do put leta lets if then else case of inl inr nil from get spawn hold here sham fst snd ref str div true false at addr list unit bool int string home server panel",
+            "extern val\nfun\nmain fn rec let in end do put leta lets if then else case of inl inr nil from get spawn hold here sham fst snd ref str div true false at addr list unit bool int string home server panel\n",
+        ),
+        (
+            b"( ) [ ] , : := :: = == => -> - + * ^ < ! | @ ~",
+            "( ) [ ] , : := :: = == => -> - + * ^ < ! | @ ~\n",
+        ),
+        (b"\"\\\"\\\\\\n\\t ~'(*\"", "\"\\\"\\\\\\n\\t ~'(*\"\n"),
+        (
+            b"0 007 1234567890 9223372036854775807",
+            "0 7 1234567890 9223372036854775807\n",
+        ),
+        (b"a\nB'_9\r\tmains\n", "a B'_9 mains\n"),
+    ];
+    for (text, expected) in cases {
+        let found = shown_again(rt.alloc(), text)?;
+        assert_eq!(rt; found.as_str(), expected);
+    }
+    Ok(())
+}

@@ -34,6 +34,8 @@ impl Model for Tokens {
 }
 
 impl Tokens {
+    ghost use Rattle.m5_lex.specs.Tokens.{AreTokens};
+
     /// No tokens yet, in a text that ends at this place.
     pub fn make(alloc: Global, ending: Place) -> Tokens
         ensures tokens { result.tokens ≡ [] }
@@ -59,6 +61,14 @@ impl Tokens {
     /// The tokens in order, each with its place.
     pub fn as_slice(&self) -> &[Placed]
         ensures { result.now ≡ self.now.tokens }
+    {
+        self.held.as_slice()
+    }
+
+    /// The same, where it matters that each is a token of the lexical form.
+    pub(crate) fn as_checked(&self) -> &[Placed]
+        ensures tokens { result.now ≡ self.now.tokens }
+        ensures form { AreTokens result.now }
     {
         self.held.as_slice()
     }
