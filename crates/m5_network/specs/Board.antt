@@ -1,5 +1,5 @@
 -- The board: the key store, the watches and, for each session, its page, triggers, events and links; and its answers.
-use Rattle.std.specs.Prelude.{ℕ, ◌==◌, Bool, if◌then◌else◌, List, [], ◌∷◌, ◌++◌, Option, Some, None}
+use Rattle.std.specs.Prelude.{ℕ, ◌==◌, if◌then◌else◌, List, [], ◌∷◌, ◌++◌, Option, Some, None}
 use Rattle.std.specs.Str.{bytes_eq}
 use Rattle.m5_terms.specs.Worlds.{site_worlds}
 use Rattle.m5_terms.specs.TypeExpression.{same_world}

@@ -2,11 +2,10 @@
 use Rattle.std.specs.Prelude.{◌≡◌, ℕ, zero, suc, Bool, true, false, List, map, Option, Some, None, sum_by, All}
 use Rattle.m5_terms.specs.Primitives.{primitive_world}
 use Rattle.m5_terms.specs.declared.types.World.{World}
-use Rattle.m5_terms.specs.declared.types.World.TheVariants.{Home, Server, Any}
 use Rattle.m5_terms.specs.declared.types.Primitive.{Primitive}
 use Rattle.m5_terms.specs.declared.types.Primitive.TheVariants as primitive
 use Rattle.m5_terms.specs.declared.ask.Cause.{Cause}
-use Rattle.m5_terms.specs.declared.ask.Cause.TheVariants.{Spent, Region, Table}
+use Rattle.m5_terms.specs.declared.ask.Cause.TheVariants.{Spent, Region}
 use Rattle.m5_terms.specs.declared.ask.Act.{Act}
 use Rattle.m5_terms.specs.declared.ask.Act.TheVariants as act
 use Rattle.m5_terms.specs.declared.ask.Entry.{Entry}

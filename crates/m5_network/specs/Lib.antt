@@ -4,3 +4,4 @@ pub mod Run
 pub mod Plain
 pub mod Opening
 pub mod Claim
+pub mod Laws

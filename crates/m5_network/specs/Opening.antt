@@ -1,8 +1,8 @@
 -- Where a run begins.
-use Rattle.std.specs.Prelude.{ℕ, ◌==◌, ◌&&◌, false, if◌then◌else◌, List, [], ◌∷◌, map, filter}
+use Rattle.std.specs.Prelude.{ℕ, ◌==◌, ◌&&◌, false, List, [], ◌∷◌, map, filter}
 use Rattle.m5_terms.specs.TypeExpression.{same_world}
 use Rattle.m5_terms.specs.declared.types.World.{World}
-use Rattle.m5_terms.specs.declared.types.World.TheVariants.{Home, Server, Any}
+use Rattle.m5_terms.specs.declared.types.World.TheVariants.{Home, Server}
 use Rattle.m5_terms.specs.declared.thread.Focus.TheVariants.{Eval}
 use Rattle.m5_meaning.specs.Site.{Program, Thread, Site, Item, raw}
 use Rattle.m5_meaning.specs.Step.{thread_of}

@@ -1,7 +1,6 @@
 -- The plain order: the turns that the script names, then rounds over all sites until one finds nothing.
-use Rattle.std.specs.Prelude.{◌≡◌, ◌≢◌, ◌⊎◌, ℕ, zero, suc, true, false, List, [], ◌∷◌, ◌++◌, Option, Some, None, map}
+use Rattle.std.specs.Prelude.{◌≡◌, ◌≢◌, ◌⊎◌, ℕ, zero, suc, true, false, List, [], ◌∷◌, ◌++◌, map}
 use Rattle.m5_terms.specs.Worlds.{site_worlds}
-use Rattle.m5_terms.specs.declared.types.World.{World}
 use Rattle.m5_terms.specs.declared.ask.Cause.{Cause}
 use Rattle.m5_meaning.specs.Site.{Program, Item}
 use Rattle.m5_script.specs.Scenario.{Scenario}

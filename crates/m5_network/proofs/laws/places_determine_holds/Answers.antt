@@ -1,0 +1,5 @@
+use Rattle.m5_network.proofs.Runs.{determine}
+use Rattle.m5_network.proofs.laws.places_determine_holds.Goals as goal
+
+pub returns : goal.returns
+returns c = determine
