@@ -79,7 +79,7 @@ pub record IsSound (count : ℕ) (g : Function) : Type 0 where
   pub nodes : function_nodes g ≡ count
   pub body : IsTrue (in_text g.body)
 
-once_holds : {A : Type 0} (P : A → Type 0) (at : Place) (m : Option Meaning) (o : Outcome A) → Holds P o → Holds P (once at m o)
+pub once_holds : {A : Type 0} (P : A → Type 0) (at : Place) (m : Option Meaning) (o : Outcome A) → Holds P o → Holds P (once at m o)
 once_holds P at None o h = h
 once_holds P at (Some m) o h = tt
 
