@@ -3,7 +3,6 @@
 use crate::end::ScopeEnd;
 use crate::resolve::resolve;
 use m5_lex::Place;
-use m5_raw::function::Function as Resolved;
 use m5_raw::node::{Node, Term};
 use m5_terms::listed::Listed;
 use m5_terms::types::World;
@@ -175,38 +174,49 @@ fn the_nearest_binder_is_meant(rt: HostRuntime) -> Result<(), Fail> {
     let Ok(raw) = resolve(alloc, &tree) else {
         return Err("refused".into());
     };
-    let own = matches!(
-        raw.functions(),
-        [Resolved {
-            parameter: 0,
-            body: Node {
-                term: Term::Var(0),
-                ..
-            },
-            ..
-        }]
-    );
-    assert!(rt; own);
+    let Some(function) = raw.functions().first() else {
+        return Err("no function".into());
+    };
+    assert_eq!(rt; function.parameter, 0);
+    assert_eq!(rt; variable(&function.body), Some(0));
+    assert!(rt; is_expected(raw.main()));
+    Ok(())
+}
+
+/// The number of a variable.
+fn variable(node: &Node) -> Option<u32> {
+    match &node.term {
+        Term::Var(number) | Term::Valid(number) => Some(*number),
+        _ => None,
+    }
+}
+
+/// Whether it is `rec 1 (2) => put ~3 = 2 in 3`.
+fn is_expected(main: &Node) -> bool {
     let Term::Rec {
         var: 1,
         other: 2,
         first,
         ..
-    } = &raw.main().term
+    } = &main.term
     else {
-        return Err("no function".into());
+        return false;
     };
+    is_expected_put(first.get())
+}
+
+fn is_expected_put(node: &Node) -> bool {
     let Term::Put {
         var: 3,
         first,
         second,
-    } = &first.get().term
+    } = &node.term
     else {
-        return Err("no declaration".into());
+        return false;
     };
-    assert!(rt; matches!(first.get().term, Term::Var(2)));
-    assert!(rt; matches!(second.get().term, Term::Valid(3)));
-    Ok(())
+    let value = first.get();
+    let rest = second.get();
+    matches!(&value.term, Term::Var(2)) && matches!(&rest.term, Term::Valid(3))
 }
 
 /// So many units in one tuple, each with its place.
