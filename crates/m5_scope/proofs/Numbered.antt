@@ -19,9 +19,8 @@ use Rattle.m5_scope.specs.Forms.{unary_resolved, unary_binding, unary_count, bin
 use Rattle.m5_scope.specs.Meaning.{Scope, entered, hides, nothing_known}
 use Rattle.m5_scope.specs.Resolving.{Outcome, found, fault, and_then, binders, leaf_resolved, resolved}
 use Rattle.m5_scope.specs.Places.{program_places}
-use Rattle.m5_scope.specs.Program.{once, externs_known, function_resolved, functions_resolved, list_binders, program_resolved, unless_past, tree_resolved}
+use Rattle.m5_scope.specs.Program.{externs_known, function_resolved, functions_resolved, list_binders, program_resolved, unless_past}
 use Rattle.m5_scope.specs.Binders.{unary_numbers, binary_numbers, second_numbers, third_numbers, numbers, function_numbers, raw_numbers, count_from, BindersDiffer}
-use Rattle.m5_scope.specs.declared.meaning.Meaning.{Meaning}
 use Rattle.m5_scope.specs.declared.meaning.Meaning.TheVariants.{Var, Glob}
 use Rattle.m5_scope.proofs.Counting.{Holds, holds_then}
 use Rattle.m5_scope.proofs.Whole.{once_holds}
