@@ -1,0 +1,5 @@
+pub mod Settings
+pub mod Threads
+pub mod Sites
+pub mod Texts
+pub mod Laws
