@@ -6,3 +6,6 @@ pub mod Canonical
 pub mod Reductions
 pub mod Replies
 pub mod Steps
+pub mod Boards
+pub mod SiteTexts
+pub mod Networks

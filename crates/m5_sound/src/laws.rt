@@ -1,8 +1,33 @@
 //! The laws of typed runs, each on a function that does nothing.
 
-ghost use Rattle.m5_sound.specs.Laws.{TypedSitesGoOn};
+ghost use Rattle.m5_sound.specs.Laws.{TypedSitesGoOn, OpeningIsTyped, RunsKeepTypes, AllStaysTyped, EachThreadGoesOn, NoSiteGoesWrong};
 
 /// A typed site's next step or ask is typed.
 pub fn typed_sites_go_on_holds()
     ensures { TypedSitesGoOn }
+{}
+
+/// A program's opening is typed.
+pub fn opening_is_typed_holds()
+    ensures { OpeningIsTyped }
+{}
+
+/// A run from a typed network leads to a typed one.
+pub fn runs_keep_types_holds()
+    ensures { RunsKeepTypes }
+{}
+
+/// Along each run of a program all threads, cells, handlers and link items are typed.
+pub fn all_stays_typed_holds()
+    ensures { AllStaysTyped }
+{}
+
+/// Along each run of a program each thread has a local step or an ask.
+pub fn each_thread_goes_on_holds()
+    ensures { EachThreadGoesOn }
+{}
+
+/// Along each run of a program no site is wrong.
+pub fn no_site_goes_wrong_holds()
+    ensures { NoSiteGoesWrong }
 {}
