@@ -9,3 +9,6 @@ pub mod Steps
 pub mod Boards
 pub mod SiteTexts
 pub mod Networks
+pub mod AllTexts
+pub mod Counts
+pub mod Progress

@@ -1,19 +1,24 @@
 -- The laws of typed runs.
-use Rattle.std.specs.Prelude.{◌≡◌, ◌≢◌, ℕ, List, [], ◌∷◌, ◌++◌}
+use Rattle.std.specs.Prelude.{◌≡◌, ◌≢◌, ◌⊎◌, ℕ, false, Option, List, [], ◌∷◌, ◌++◌, map}
+use Rattle.std.specs.List.{AllByRecursion as Each}
 use Rattle.m5_terms.specs.declared.types.World.{World}
 use Rattle.m5_terms.specs.declared.types.World.TheVariants.{Any}
+use Rattle.m5_terms.specs.declared.ask.Cause.{Cause}
+use Rattle.m5_terms.specs.declared.ask.Entry.{Entry}
 use Rattle.m5_typing.specs.Context.{CellTypes}
 use Rattle.m5_typing.specs.Program.{IsProgram}
 use Rattle.m5_meaning.specs.Machine.{wrong}
 use Rattle.m5_meaning.specs.Site.{Program, Thread, Site, Item}
 use Rattle.m5_meaning.specs.Step.{site_next}
 use Rattle.m5_script.specs.Scenario.{Scenario, IsScript}
-use Rattle.m5_network.specs.Entries.{Deed}
+use Rattle.m5_network.specs.Entries.{Deed, entry_of}
+use Rattle.m5_network.specs.Claim.{has_seal}
 use Rattle.m5_network.specs.Opening.{opening}
-use Rattle.m5_network.specs.Run.{Network, Place, Run}
+use Rattle.m5_network.specs.Run.{Network, Place, IsSite, IsAtRest, Step, Run}
 use Rattle.m5_sound.specs.Settings.{setting, Grows}
 use Rattle.m5_sound.specs.Sites.{SiteTyped, NextTyped}
 use Rattle.m5_sound.specs.Networks.{NetworkTyped, ComesTo, moved}
+use Rattle.m5_sound.specs.Texts.{SiteHasTexts, DeedHasTexts, ActHasTexts, BoardHasTexts, LinkHasTexts}
 
 -- what a typed site does next is a step to a typed site or a typed ask
 abbrev pub TypedSitesGoOn : Type 0
@@ -47,3 +52,22 @@ abbrev pub NoSiteGoesWrong : Type 0
 NoSiteGoesWrong =
     (P : Program) (S : Scenario) (ps : List Place) (ds : List (Deed Item)) (N : Network) (s : ℕ) (w : World) (x : Site) → ComesTo P S ps ds N s w x →
     site_next P w x ≢ wrong
+
+-- something can always happen: after each run of a program, each site that is not stopped is at rest or makes a deed
+abbrev pub SomethingCanHappen : Type 0
+SomethingCanHappen =
+    (P : Program) (S : Scenario) (ps : List Place) (ds : List (Deed Item)) (N : Network) (s : ℕ) (w : World) → IsProgram P → IsScript S → Run P S (opening P S) ps ds N →
+    IsSite S s w → (N.site s w).stopped ≡ false →
+    IsAtRest P N s w ⊎ ((cause : Option Cause) × (d : Deed Item) × (M : Network) × Step P S N (record { session = s; world = w; cause = cause }) d M)
+
+pub record AllTexts (N : Network) (x : Site) (ds : List (Deed Item)) : Type 0 where
+  pub site : SiteHasTexts x
+  pub board : BoardHasTexts N.board
+  pub links : (z : ℕ) (u v : World) → v ≢ Any → LinkHasTexts N.board z u v
+  pub deeds : Each DeedHasTexts ds
+  pub entries : Each (λ (e : Entry). ActHasTexts e.act) (map (entry_of has_seal) ds)
+
+-- and each text of the site, the board, the links, the deeds and the entries has only bytes of texts, raw items aside
+abbrev pub TextsStayTexts : Type 0
+TextsStayTexts =
+    (P : Program) (S : Scenario) (ps : List Place) (ds : List (Deed Item)) (N : Network) (s : ℕ) (w : World) (x : Site) → ComesTo P S ps ds N s w x → AllTexts N x ds

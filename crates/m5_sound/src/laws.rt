@@ -1,6 +1,6 @@
 //! The laws of typed runs, each on a function that does nothing.
 
-ghost use Rattle.m5_sound.specs.Laws.{TypedSitesGoOn, OpeningIsTyped, RunsKeepTypes, AllStaysTyped, EachThreadGoesOn, NoSiteGoesWrong};
+ghost use Rattle.m5_sound.specs.Laws.{TypedSitesGoOn, OpeningIsTyped, RunsKeepTypes, AllStaysTyped, EachThreadGoesOn, NoSiteGoesWrong, SomethingCanHappen, TextsStayTexts};
 
 /// A typed site's next step or ask is typed.
 pub fn typed_sites_go_on_holds()
@@ -30,4 +30,14 @@ pub fn each_thread_goes_on_holds()
 /// Along each run of a program no site is wrong.
 pub fn no_site_goes_wrong_holds()
     ensures { NoSiteGoesWrong }
+{}
+
+/// After each run of a program each site is stopped, at rest, or can make a deed.
+pub fn something_can_happen_holds()
+    ensures { SomethingCanHappen }
+{}
+
+/// Along each run of a program texts have only the bytes of texts.
+pub fn texts_stay_texts_holds()
+    ensures { TextsStayTexts }
 {}
