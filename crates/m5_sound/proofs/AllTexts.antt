@@ -11,7 +11,8 @@ use Rattle.m5_sound.specs.Settings.{setting}
 use Rattle.m5_sound.specs.Texts.{QueryHasTexts, ReplyHasTexts, DeedHasTexts, ActHasTexts}
 use Rattle.m5_sound.specs.Laws.{TextsStayTexts}
 use Rattle.m5_sound.proofs.SiteTexts.{site-texts, items-texts}
-use Rattle.m5_sound.proofs.Networks.{reached}
+use Rattle.m5_sound.proofs.Networks.{DeedFine, reached}
+use Rattle.m5_sound.proofs.Growth.{each-map}
 
 found-texts : (r : Reply Item) → ReplyHasTexts r → IsText (text_found r)
 found-texts (found t) h = h
@@ -42,10 +43,11 @@ entries-texts (d ∷ ds) h = (act-texts d.query d.reply h.0.query h.0.reply, ent
 pub all-texts : TextsStayTexts
 all-texts P S ps ds N s w x c =
     let k = reached P S ps ds N s w x c in
+    let texts : Each DeedHasTexts ds = each-map DeedFine DeedHasTexts (λ d f. f.texts) ds k.deeds in
     record {
       site = site-texts (setting P k.comes.to) w x k.comes.typed;
       board = k.network.texts;
       links = λ z u v n. items-texts (setting P (k.of z)) v _ (k.network.links z u v n);
-      deeds = k.texts;
-      entries = entries-texts ds k.texts;
+      deeds = texts;
+      entries = entries-texts ds texts;
     }

@@ -152,7 +152,7 @@ answer-typed P T b s w (set e x) n a t =
     let d = t.desks s in
     record {
       reply_ = tt;
-      board_ = desk-set P T b s _ t (record { links = d.links; texts = record { page = set-texts (b.desks s).texts e x a.0 a.1 d.texts.page; handlers = d.texts.handlers; triggers = d.texts.triggers; events = d.texts.events } });
+      board_ = desk-set P T b s _ t (record { links = d.links; texts = record { page = set-texts (b.desks s).texts e x a.1 a.2 d.texts.page; handlers = d.texts.handlers; triggers = d.texts.triggers; events = d.texts.events } });
     }
 answer-typed P T b s w (get_text e) n a t = record { reply_ = or-empty (setting P (T s)) w _ (found-text (b.desks s).texts e (t.desks s).texts.page); board_ = t }
 answer-typed P T b s w (on e k) n a t =
@@ -163,7 +163,7 @@ answer-typed P T b s w (on e k) n a t =
         links = d.links;
         texts = record {
           page = d.texts.page;
-          handlers = each-append (λ (h : Handling). IsText h.element) (b.desks s).handlers _ d.texts.handlers (a, tt);
+          handlers = each-append (λ (h : Handling). IsText h.element) (b.desks s).handlers _ d.texts.handlers (a.1, tt);
           triggers = d.texts.triggers;
           events = d.texts.events;
         };
@@ -172,11 +172,11 @@ answer-typed P T b s w (on e k) n a t =
 answer-typed P T b s w (read k) n a t = record { reply_ = or-missing (setting P (T s)) w _ (found-text b.pairs k t.pairs); board_ = t }
 answer-typed P T b s w (write k x) n a t = record {
   reply_ = tt;
-  board_ = record { pairs = set-texts b.pairs k x a.0 a.1 t.pairs; watches = t.watches; desks = posted-typed P T k x b.watches b.desks a.0 a.1 t.desks };
+  board_ = record { pairs = set-texts b.pairs k x a.1 a.2 t.pairs; watches = t.watches; desks = posted-typed P T k x b.watches b.desks a.1 a.2 t.desks };
 }
 answer-typed P T b s w (watch k m) n a t = record {
   reply_ = tt;
-  board_ = record { pairs = t.pairs; watches = each-append (λ (w : Watch). IsText w.key) b.watches _ t.watches (a, tt); desks = t.desks };
+  board_ = record { pairs = t.pairs; watches = each-append (λ (w : Watch). IsText w.key) b.watches _ t.watches (a.1, tt); desks = t.desks };
 }
 answer-typed P T b s w (send v i) n a t = record {
   reply_ = tt;

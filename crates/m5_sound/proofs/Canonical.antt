@@ -3,7 +3,7 @@ use Rattle.std.proofs.Common.{◌≡◌, ℕ, ℤ, Bool, Some, List, refl, sym, 
 use Rattle.m5_terms.specs.Expression.{Expression, leaf, unary, binary, ternary}
 use Rattle.m5_terms.specs.TypeExpression.{TypeExpression, unit, bool, int, string, address, product, sum, function, list, cell, sham, at}
 use Rattle.m5_terms.specs.Text.{IsText}
-use Rattle.m5_terms.specs.Primitives.{primitive_type}
+use Rattle.m5_terms.specs.Primitives.{primitive_world, primitive_type}
 use Rattle.m5_terms.specs.declared.types.World.{World}
 use Rattle.m5_terms.specs.declared.types.World.TheVariants.{Any}
 use Rattle.m5_terms.specs.declared.types.Primitive.{Primitive}
@@ -26,7 +26,7 @@ pub data Canonical (E : Setting) (u : World) : Expression → TypeExpression →
   an_address : (w : World) → Canonical E u (leaf (leaf_form.Addr w)) (address w)
   a_nil : (T A : TypeExpression) → Canonical E u (leaf (leaf_form.Nil T)) (list A)
   a_cell : (w : World) (n : ℕ) (A : TypeExpression) → type_at (E.cells u) n ≡ Some A → Canonical E u (leaf (leaf_form.CellAt w n)) (cell A)
-  an_extern : (p : Primitive) (A B : TypeExpression) → function A B ≡ primitive_type p → Canonical E u (leaf (leaf_form.Extern p)) (function A B)
+  an_extern : (p : Primitive) (A B : TypeExpression) → u ≡ primitive_world p → function A B ≡ primitive_type p → Canonical E u (leaf (leaf_form.Extern p)) (function A B)
   a_declared : (f : ℕ) (A B : TypeExpression) → IsKnownAt (E.functions f) u (function A B) → Canonical E u (leaf (leaf_form.Glob f)) (function A B)
   a_function : (x : ℕ) (C : TypeExpression) (b : Expression) (A B : TypeExpression) → C ≡ A → Typed E (with x (Some (local u A)) nothing) u b B → Canonical E u (unary (unary_form.Fn x C) b) (function A B)
   a_recursive : (f x : ℕ) (C D : TypeExpression) (b : Expression) (A B : TypeExpression) → Typed E nothing u (unary (unary_form.Rec f x C D) b) (function A B) →
@@ -47,16 +47,16 @@ canonical E u (leaf (leaf_form.Addr w)) A (p, d) = subst (Canonical E u (leaf (l
 canonical E u (leaf (leaf_form.Nil T)) A (p, d) = subst (Canonical E u (leaf (leaf_form.Nil T))) (sym d.0) (a_nil T T)
 canonical E u (leaf (leaf_form.CellAt w n)) A (p, d) =
     subst (Canonical E u (leaf (leaf_form.CellAt w n))) (sym d.0.4) (a_cell w n d.0.0 (subst (λ x. type_at (E.cells x) n ≡ Some d.0.0) (sym d.0.2) d.0.3))
-canonical E u (leaf (leaf_form.Extern x)) A (p, d) = subst (Canonical E u (leaf (leaf_form.Extern x))) (sym d.0.1) (extern-form x)
+canonical E u (leaf (leaf_form.Extern x)) A (p, d) = subst (Canonical E u (leaf (leaf_form.Extern x))) (sym d.0.1) (extern-form x d.0.0)
   where
-    extern-form : (x : Primitive) → Canonical E u (leaf (leaf_form.Extern x)) (primitive_type x)
-    extern-form primitive.Say = an_extern primitive.Say _ _ refl
-    extern-form primitive.SetText = an_extern primitive.SetText _ _ refl
-    extern-form primitive.GetText = an_extern primitive.GetText _ _ refl
-    extern-form primitive.On = an_extern primitive.On _ _ refl
-    extern-form primitive.Read = an_extern primitive.Read _ _ refl
-    extern-form primitive.Write = an_extern primitive.Write _ _ refl
-    extern-form primitive.Watch = an_extern primitive.Watch _ _ refl
+    extern-form : (x : Primitive) → u ≡ primitive_world x → Canonical E u (leaf (leaf_form.Extern x)) (primitive_type x)
+    extern-form primitive.Say h = an_extern primitive.Say _ _ h refl
+    extern-form primitive.SetText h = an_extern primitive.SetText _ _ h refl
+    extern-form primitive.GetText h = an_extern primitive.GetText _ _ h refl
+    extern-form primitive.On h = an_extern primitive.On _ _ h refl
+    extern-form primitive.Read h = an_extern primitive.Read _ _ h refl
+    extern-form primitive.Write h = an_extern primitive.Write _ _ h refl
+    extern-form primitive.Watch h = an_extern primitive.Watch _ _ h refl
 canonical E u (leaf (leaf_form.Glob f)) A (p, d) =
     subst (Canonical E u (leaf (leaf_form.Glob f))) (sym d.0.2) (a_declared f d.0.0 d.0.1 (subst (λ T. IsKnownAt (E.functions f) u T) d.0.2 d.0.3))
 canonical E u (leaf _) A (p, d) = cc

@@ -2,23 +2,27 @@
 use Rattle.std.proofs.Common.{◌≡◌, ◌≢◌, ◌==◌, ℕ, zero, suc, Bool, true, false, if◌then◌else◌, Option, Some, None, List, [], ◌∷◌, ◌++◌, map, inl, refl, sym, subst, ap, ◌∙◌}
 use Rattle.std.specs.List.{AllByRecursion as Each}
 use Rattle.std.proofs.lemmas.Bool.{eqb-true, eq-eqb}
-use Rattle.std.proofs.lemmas.List.Elements.{recursion_from_All, All-filter, All-map, All-weaker}
+use Rattle.std.proofs.lemmas.List.Elements.{All-from_recursion, recursion_from_All, All-filter, All-map, All-weaker}
 use Rattle.m5_terms.specs.TypeExpression.{unit}
 use Rattle.m5_terms.specs.Text.{IsText}
 use Rattle.m5_terms.specs.declared.types.World.{World}
 use Rattle.m5_terms.specs.declared.types.World.TheVariants.{Home, Server, Any}
 use Rattle.m5_terms.specs.declared.ask.Cause.{Cause}
+use Rattle.m5_terms.specs.declared.ask.Entry.{Entry}
+use Rattle.m5_terms.specs.declared.types.Primitive.TheVariants as primitive
+use Rattle.m5_terms.specs.Primitives.{primitive_world}
 use Rattle.m5_typing.specs.Context.{CellTypes, Setting}
 use Rattle.m5_typing.specs.Program.{IsProgram}
 use Rattle.m5_meaning.specs.Machine.{goes, asks, wrong, Comes}
-use Rattle.m5_meaning.specs.Asks.{Query, Reply, nothing}
-use Rattle.m5_meaning.specs.Site.{Program, Site, Item, raw}
+use Rattle.m5_meaning.specs.Asks.{Query, read, send, take, stop, Reply, found, message, nothing}
+use Rattle.m5_meaning.specs.Site.{Program, Site, Item, thread, raw}
 use Rattle.m5_meaning.specs.Step.{SiteNext, site_next}
 use Rattle.m5_script.specs.Scenario.{Scenario, IsPair, IsEvent}
 use Rattle.m5_script.specs.declared.items.PageEvent.{PageEvent}
 use Rattle.m5_script.specs.declared.items.RawItem.{RawItem}
 use Rattle.m5_network.specs.Board.{Board, Happening, answer_of, at_session, at_world}
-use Rattle.m5_network.specs.Entries.{Deed}
+use Rattle.m5_network.specs.Entries.{Deed, shown, read_shown, take_shown, entry_of}
+use Rattle.m5_network.specs.Claim.{has_seal, primitive_of, IsAtItsWorld}
 use Rattle.m5_network.specs.Opening.{opening, opening_site, opening_threads, happening}
 use Rattle.m5_network.specs.Run.{Network, Place, NextAsk, Answers, Stops, Makes, Run, with_site}
 use Rattle.m5_sound.specs.Settings.{setting, Grows, GrowsAt}
@@ -26,9 +30,9 @@ use Rattle.m5_sound.specs.Threads.{ThreadTyped}
 use Rattle.m5_sound.specs.Sites.{SiteTyped, ItemTyped, QueryTyped, ReplyTyped, AnswersTyped, NextTyped}
 use Rattle.m5_sound.specs.Texts.{ReplyHasTexts, DeedHasTexts}
 use Rattle.m5_sound.specs.Networks.{NetworkTyped, ComesTo}
-use Rattle.m5_sound.specs.Laws.{OpeningIsTyped, RunsKeepTypes, AllStaysTyped, EachThreadGoesOn, NoSiteGoesWrong}
+use Rattle.m5_sound.specs.Laws.{PrimitivesAreAtTheirWorlds, OpeningIsTyped, RunsKeepTypes, AllStaysTyped, EachThreadGoesOn, NoSiteGoesWrong}
 use Rattle.m5_sound.proofs.Worlds.{by-world, is-real}
-use Rattle.m5_sound.proofs.Growth.{more, grows-self, grows-on, own-self, own-on, site-grown}
+use Rattle.m5_sound.proofs.Growth.{more, grows-self, grows-on, own-self, own-on, site-grown, each-map}
 use Rattle.m5_sound.proofs.Steps.{next-typed, declares}
 use Rattle.m5_sound.proofs.Boards.{BoardTyped, AnswerTyped, at-each, answer-typed, answer-kind, board-grown}
 use Rattle.m5_sound.proofs.SiteTexts.{query-texts, reply-texts}
@@ -66,12 +70,33 @@ placed P T N s w L x b g t n k = record {
         (λ v o q. site-grown (setting P (T s)) (setting P L) (more (setting P (T s)) L g.0) v (g.1 v o) (N.site s v) (n.sites s v q)) v r
     at-session false z e v r = n.sites z v r
 
+-- a deed has texts, and a primitive's is at its world
+pub record DeedFine (d : Deed Item) : Type 0 where
+  pub texts : DeedHasTexts d
+  pub world : IsAtItsWorld (primitive_of (shown has_seal d.query d.reply)) d.world
+
+read-world : (k : List ℕ) (r : Reply Item) (u : World) → u ≡ primitive_world primitive.Read → IsAtItsWorld (primitive_of (read_shown k r)) u
+read-world k (found t) u h = h
+read-world k _ u h = h
+
+take-world : (r : Reply Item) (u : World) → IsAtItsWorld (primitive_of (take_shown has_seal r)) u
+take-world (message v (thread t)) u = tt
+take-world (message v (raw bytes)) u = tt
+take-world _ u = tt
+
+query-world : (E : Setting) (u : World) (q : Query Item) (r : Reply Item) → QueryTyped E u q → IsAtItsWorld (primitive_of (shown has_seal q r)) u
+query-world E u (read k) r t = read-world k r u t.0
+query-world E u (send v i) r t = tt
+query-world E u take r t = take-world r u
+query-world E u (stop c) r t = tt
+query-world E u _ r t = t.0
+
 -- one step of a run
 pub record StepTyped (P : Program) (T : ℕ → CellTypes) (d : Deed Item) (M : Network) : Type 0 where
   pub to : ℕ → CellTypes
   pub grows : (s : ℕ) → Grows (T s) (to s)
   pub typed : NetworkTyped P to M
-  pub texts : DeedHasTexts d
+  pub deed : DeedFine d
 
 grows-one : (T : ℕ → CellTypes) (s : ℕ) (L : CellTypes) → Grows (T s) L → (z : ℕ) → Grows (T z) (at_session s L T z)
 grows-one T s L g z = at-each (λ z K. Grows (T z) K) s L T g (λ z. grows-self (T z)) z
@@ -137,7 +162,10 @@ answer-step P T N M s w d h r t a =
       grows = grows-one T s k.cells k.grows.0;
       typed = subst (λ K. NetworkTyped P (at_session s k.cells T) K) (sym a.after)
           (placed P T N s w k.cells a.site _ k.grows (subst (λ x. SiteTyped (setting P k.cells) w x) same y.typed) t k.board);
-      texts = record { query = query-texts (setting P k.cells) w d.query k.query; reply = subst ReplyHasTexts (sym a.reply) (reply-texts (setting P k.cells) w _ k.reply) };
+      deed = record {
+        texts = record { query = query-texts (setting P k.cells) w d.query k.query; reply = subst ReplyHasTexts (sym a.reply) (reply-texts (setting P k.cells) w _ k.reply) };
+        world = subst (λ v. IsAtItsWorld (primitive_of (shown has_seal d.query d.reply)) v) (sym a.world) (query-world (setting P k.cells) w d.query d.reply k.query);
+      };
     }
 
 stop-step : (P : Program) (S : Scenario) (T : ℕ → CellTypes) (N M : Network) (s : ℕ) (w : World) (cause : Cause) (d : Deed Item) → w ≢ Any → NetworkTyped P T N → Stops P S N s w cause d M → StepTyped P T d M
@@ -146,7 +174,7 @@ stop-step P S T N M s w cause d r t a = record {
   grows = grows-one T s (T s) (grows-self (T s));
   typed = subst (λ K. NetworkTyped P (at_session s (T s) T) K) (sym a.after)
       (placed P T N s w (T s) (record (N.site s w) { stopped = true }) N.board (own-self w (T s)) (t.sites s w r) t (board-grown P T s (T s) N.board (grows-self (T s)) (board-of P T N t)));
-  texts = subst (λ (e : Deed Item). DeedHasTexts e) (sym a.deed) (record { query = tt; reply = tt });
+  deed = subst DeedFine (sym a.deed) (record { texts = record { query = tt; reply = tt }; world = tt });
 }
 
 makes-step : (P : Program) (S : Scenario) (T : ℕ → CellTypes) (N M : Network) (p : Place) (d : Deed Item) (o : Option Cause) → IsProgram P → p.world ≢ Any → NetworkTyped P T N → Makes P S N p d M o → StepTyped P T d M
@@ -158,16 +186,16 @@ pub record RunTyped (P : Program) (T : ℕ → CellTypes) (ds : List (Deed Item)
   pub to : ℕ → CellTypes
   pub grows : (s : ℕ) → Grows (T s) (to s)
   pub typed : NetworkTyped P to M
-  pub texts : Each DeedHasTexts ds
+  pub deeds : Each DeedFine ds
 
 pub run-typed : (P : Program) (S : Scenario) (N M : Network) (ps : List Place) (ds : List (Deed Item)) (T : ℕ → CellTypes) → IsProgram P → Run P S N ps ds M → NetworkTyped P T N → RunTyped P T ds M
-run-typed P S N M [] [] T h r t = record { to = T; grows = λ s. grows-self (T s); typed = subst (λ K. NetworkTyped P T K) (sym r) t; texts = tt }
+run-typed P S N M [] [] T h r t = record { to = T; grows = λ s. grows-self (T s); typed = subst (λ K. NetworkTyped P T K) (sym r) t; deeds = tt }
 run-typed P S N M [] (d ∷ ds) T h r t = absurd r
 run-typed P S N M (p ∷ ps) [] T h r t = absurd r
 run-typed P S N M (p ∷ ps) (d ∷ ds) T h r t =
     let k = makes-step P S T N r.0 p d p.cause h (is-real p.world r.1.site.world) t r.1.makes in
     let l = run-typed P S r.0 M ps ds k.to h r.2 k.typed in
-    record { to = l.to; grows = λ s. grows-on (T s) (k.to s) (l.to s) (k.grows s) (l.grows s); typed = l.typed; texts = (k.texts, l.texts) }
+    record { to = l.to; grows = λ s. grows-on (T s) (k.to s) (l.to s) (k.grows s) (l.grows s); typed = l.typed; deeds = (k.deed, l.deeds) }
 
 pub keeps-types : RunsKeepTypes
 keeps-types P S N M ps ds T h r t = let k = run-typed P S N M ps ds T h r t in (k.to, k.grows, k.typed)
@@ -210,13 +238,13 @@ pub record Reached (P : Program) (s : ℕ) (w : World) (x : Site) (ds : List (De
   pub network : NetworkTyped P of N
   pub real : w ≢ Any
   pub comes : SiteComes P (of s) w x
-  pub texts : Each DeedHasTexts ds
+  pub deeds : Each DeedFine ds
 
 pub reached : (P : Program) (S : Scenario) (ps : List Place) (ds : List (Deed Item)) (N : Network) (s : ℕ) (w : World) (x : Site) → ComesTo P S ps ds N s w x → Reached P s w x ds N
 reached P S ps ds N s w x c =
     let k = run-typed P S (opening P S) N ps ds (λ s w. []) c.program c.run (opening-is-typed P S c.program c.script) in
     let r = is-real w c.site.world in
-    record { of = k.to; network = k.typed; real = r; comes = comes-typed P (k.to s) w c.steps (N.site s w) x c.program r (k.typed.sites s w r) c.comes; texts = k.texts }
+    record { of = k.to; network = k.typed; real = r; comes = comes-typed P (k.to s) w c.steps (N.site s w) x c.program r (k.typed.sites s w r) c.comes; deeds = k.deeds }
 
 pub all-stays : AllStaysTyped
 all-stays P S ps ds N s w x c =
@@ -244,3 +272,10 @@ each-goes-on P S ps ds N s w x c before after t e =
     let threads : Each (ThreadTyped E w) (before ++ t ∷ after) = subst (λ l. Each (ThreadTyped E w) l) e k.comes.typed.0 in
     let r = taken-out (ThreadTyped E w) before after t threads in
     not-wrong E w _ (next-typed P E w (record x { threads = t ∷ (before ++ after) }) (declares P k.comes.to c.program) k.real (r, k.comes.typed.1, k.comes.typed.2))
+
+pub at-their-worlds : PrimitivesAreAtTheirWorlds
+at-their-worlds P S ps ds N h k r =
+    let d = (run-typed P S (opening P S) N ps ds (λ s w. []) h r (opening-is-typed P S h k)).deeds in
+    All-map (λ (e : Entry). IsAtItsWorld (primitive_of e.act) e.world) (entry_of has_seal) ds
+    (All-from_recursion (λ (d : Deed Item). IsAtItsWorld (primitive_of (shown has_seal d.query d.reply)) d.world) ds
+    (each-map DeedFine (λ (d : Deed Item). IsAtItsWorld (primitive_of (shown has_seal d.query d.reply)) d.world) (λ d f. f.world) ds d))

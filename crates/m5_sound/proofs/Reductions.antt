@@ -4,7 +4,7 @@ use Rattle.std.specs.Ordering.{int_eq}
 use Rattle.m5_terms.specs.Expression.{Expression, leaf, unary, binary, ternary}
 use Rattle.m5_terms.specs.TypeExpression.{TypeExpression, unit, bool, int, string, address, product, sum, function, list, cell, sham, at, mobile}
 use Rattle.m5_terms.specs.Text.{IsText}
-use Rattle.m5_terms.specs.Primitives.{primitive_type}
+use Rattle.m5_terms.specs.Primitives.{primitive_world, primitive_type}
 use Rattle.m5_terms.specs.Substitution.{substituted}
 use Rattle.m5_terms.specs.declared.types.World.{World}
 use Rattle.m5_terms.specs.declared.types.World.TheVariants.{Home, Server, Any}
@@ -31,10 +31,11 @@ use Rattle.m5_typing.proofs.Mobile.{both-left, both-right, moves}
 use Rattle.m5_typing.proofs.Everywhere.{anywhere, anywhere-one}
 use Rattle.m5_typing.proofs.Substitute.{substitution_law}
 use Rattle.m5_typing.proofs.Declared.{declared_is_typed}
+use Rattle.m5_meaning.specs.Asks.{say, set, get_text, on, read, write, watch}
 use Rattle.m5_meaning.specs.Parts.{unary_parts, parts}
 use Rattle.m5_meaning.specs.Reduction.{Reduced, gives, makes_text, goes_on, makes_cell, loads, stores, leaves, says, sets, writes, gets, reads, handles, watches, wrong, unit_value, unit_or, called_extern, called_function, called, first_of, second_of, text_of_number, divided, operated, at_cell, got, unheld, unsham, reduced_unary, reduced_binary, chosen, case_of_sum, case_of_list, reduced_ternary, reduced}
 use Rattle.m5_meaning.specs.Site.{Program}
-use Rattle.m5_sound.specs.Sites.{ValueTyped, HandlerTyped}
+use Rattle.m5_sound.specs.Sites.{ValueTyped, HandlerTyped, QueryTyped}
 use Rattle.m5_sound.proofs.Worlds.{by-world}
 use Rattle.m5_sound.proofs.Growth.{grown}
 use Rattle.m5_sound.proofs.Parts.{form-of, both-are}
@@ -50,13 +51,13 @@ Outcome E u A (makes_cell v) = (B : TypeExpression) × (A ≡ cell B) × IsSmall
 Outcome E u A (loads n) = type_at (E.cells u) n ≡ Some A
 Outcome E u A (stores n v) = (B : TypeExpression) × (A ≡ unit) × (type_at (E.cells u) n ≡ Some B) × ValueTyped E u v B
 Outcome E u A (leaves v e) = (v ≢ u) × (v ≢ Any) × IsTrue (mobile A) × Typed E nothing v e A
-Outcome E u A (says t) = (A ≡ unit) × IsText t
-Outcome E u A (sets e t) = (A ≡ unit) × IsText e × IsText t
-Outcome E u A (writes k t) = (A ≡ unit) × IsText k × IsText t
-Outcome E u A (gets e) = (A ≡ string) × IsText e
-Outcome E u A (reads k) = (A ≡ unit_or string) × IsText k
-Outcome E u A (handles e h) = (A ≡ unit) × IsText e × HandlerTyped E u h
-Outcome E u A (watches k h) = (A ≡ unit) × IsText k × HandlerTyped E u h
+Outcome E u A (says t) = (A ≡ unit) × QueryTyped E u (say t)
+Outcome E u A (sets e t) = (A ≡ unit) × QueryTyped E u (set e t)
+Outcome E u A (writes k t) = (A ≡ unit) × QueryTyped E u (write k t)
+Outcome E u A (gets e) = (A ≡ string) × QueryTyped E u (get_text e)
+Outcome E u A (reads k) = (A ≡ unit_or string) × QueryTyped E u (read k)
+Outcome E u A (handles e h) = (A ≡ unit) × ((n : ℕ) → QueryTyped E u (on e n)) × HandlerTyped E u h
+Outcome E u A (watches k h) = (A ≡ unit) × ((n : ℕ) → QueryTyped E u (watch k n)) × HandlerTyped E u h
 Outcome E u A wrong = ⊥
 
 -- the program's functions are those that are known
@@ -138,31 +139,31 @@ operated-typed E u op.EqStr a b (a_text s i) (a_text t j) = (refl, (refl, omega 
 store-typed : (E : Setting) (u : World) (v b : Expression) (A : TypeExpression) → Canonical E u v (cell A) → ValueTyped E u b A → Outcome E u unit (at_cell (λ n. stores n b) v)
 store-typed E u v b A (a_cell w n A' e) c = (A, refl, e, c)
 
-says-typed : (E : Setting) (u : World) (v : Expression) → Canonical E u v string → Outcome E u unit (called_extern primitive.Say v)
-says-typed E u v (a_text s i) = (refl, i)
+says-typed : (E : Setting) (u : World) (v : Expression) → u ≡ primitive_world primitive.Say → Canonical E u v string → Outcome E u unit (called_extern primitive.Say v)
+says-typed E u v h (a_text s i) = (refl, (h, i))
 
-gets-typed : (E : Setting) (u : World) (v : Expression) → Canonical E u v string → Outcome E u string (called_extern primitive.GetText v)
-gets-typed E u v (a_text s i) = (refl, i)
+gets-typed : (E : Setting) (u : World) (v : Expression) → u ≡ primitive_world primitive.GetText → Canonical E u v string → Outcome E u string (called_extern primitive.GetText v)
+gets-typed E u v h (a_text s i) = (refl, (h, i))
 
-reads-typed : (E : Setting) (u : World) (v : Expression) → Canonical E u v string → Outcome E u (sum unit string) (called_extern primitive.Read v)
-reads-typed E u v (a_text s i) = (refl, i)
+reads-typed : (E : Setting) (u : World) (v : Expression) → u ≡ primitive_world primitive.Read → Canonical E u v string → Outcome E u (sum unit string) (called_extern primitive.Read v)
+reads-typed E u v h (a_text s i) = (refl, (h, i))
 
 pub record OnTwoTexts (E : Setting) (u : World) (v : Expression) : Type 0 where
-  pub sets : Outcome E u unit (called_extern primitive.SetText v)
-  pub writes : Outcome E u unit (called_extern primitive.Write v)
+  pub sets : u ≡ primitive_world primitive.SetText → Outcome E u unit (called_extern primitive.SetText v)
+  pub writes : u ≡ primitive_world primitive.Write → Outcome E u unit (called_extern primitive.Write v)
 
 two-texts : (E : Setting) (u : World) (a b : Expression) → Canonical E u a string → Canonical E u b string → OnTwoTexts E u (binary binary_form.Pair a b)
-two-texts E u a b (a_text s i) (a_text t j) = record { sets = (refl, i, j); writes = (refl, i, j) }
+two-texts E u a b (a_text s i) (a_text t j) = record { sets = λ h. (refl, (h, i, j)); writes = λ h. (refl, (h, i, j)) }
 
 sets-typed : (E : Setting) (u : World) (v : Expression) → Canonical E u v (product string string) → OnTwoTexts E u v
 sets-typed E u v (a_pair a b A B c d) = two-texts E u a b (canonical E u a string c) (canonical E u b string d)
 
 pub record OnHandler (E : Setting) (u : World) (v : Expression) : Type 0 where
-  pub handles : Outcome E u unit (called_extern primitive.On v)
-  pub watches : Outcome E u unit (called_extern primitive.Watch v)
+  pub handles : u ≡ primitive_world primitive.On → Outcome E u unit (called_extern primitive.On v)
+  pub watches : u ≡ primitive_world primitive.Watch → Outcome E u unit (called_extern primitive.Watch v)
 
 with-handler : (E : Setting) (u : World) (a b : Expression) → Canonical E u a string → HandlerTyped E u b → OnHandler E u (binary binary_form.Pair a b)
-with-handler E u a b (a_text s i) c = record { handles = (refl, i, c); watches = (refl, i, c) }
+with-handler E u a b (a_text s i) c = record { handles = λ h. (refl, (λ n. (h, i)), c); watches = λ h. (refl, (λ n. (h, i)), c) }
 
 handles-typed : (E : Setting) (u : World) (v : Expression) → Canonical E u v (product string (function string unit)) → OnHandler E u v
 handles-typed E u v (a_pair a b A B c d) = with-handler E u a b (canonical E u a string c) d
@@ -178,14 +179,14 @@ extern-at : (E : Setting) (u : World) (p : Primitive) (v : Expression) (A B C D 
 extern-at E u p v A B C D e f c =
     outcome-at E u (called_extern p v) B D (function-right A B C D e) (f (canonical E u v C (c.0, at-type E nothing u v A C (function-left A B C D e) c.1)))
 
-extern-typed : (E : Setting) (u : World) (p : Primitive) (v : Expression) (A B : TypeExpression) → function A B ≡ primitive_type p → ValueTyped E u v A → Outcome E u B (called_extern p v)
-extern-typed E u primitive.Say v A B e c = extern-at E u primitive.Say v A B _ _ e (says-typed E u v) c
-extern-typed E u primitive.SetText v A B e c = extern-at E u primitive.SetText v A B _ _ e (λ k. (sets-typed E u v k).sets) c
-extern-typed E u primitive.GetText v A B e c = extern-at E u primitive.GetText v A B _ _ e (gets-typed E u v) c
-extern-typed E u primitive.On v A B e c = extern-at E u primitive.On v A B _ _ e (λ k. (handles-typed E u v k).handles) c
-extern-typed E u primitive.Read v A B e c = extern-at E u primitive.Read v A B _ _ e (reads-typed E u v) c
-extern-typed E u primitive.Write v A B e c = extern-at E u primitive.Write v A B _ _ e (λ k. (sets-typed E u v k).writes) c
-extern-typed E u primitive.Watch v A B e c = extern-at E u primitive.Watch v A B _ _ e (λ k. (handles-typed E u v k).watches) c
+extern-typed : (E : Setting) (u : World) (p : Primitive) (v : Expression) (A B : TypeExpression) → u ≡ primitive_world p → function A B ≡ primitive_type p → ValueTyped E u v A → Outcome E u B (called_extern p v)
+extern-typed E u primitive.Say v A B h e c = extern-at E u primitive.Say v A B _ _ e (says-typed E u v h) c
+extern-typed E u primitive.SetText v A B h e c = extern-at E u primitive.SetText v A B _ _ e (λ k. (sets-typed E u v k).sets h) c
+extern-typed E u primitive.GetText v A B h e c = extern-at E u primitive.GetText v A B _ _ e (gets-typed E u v h) c
+extern-typed E u primitive.On v A B h e c = extern-at E u primitive.On v A B _ _ e (λ k. (handles-typed E u v k).handles h) c
+extern-typed E u primitive.Read v A B h e c = extern-at E u primitive.Read v A B _ _ e (reads-typed E u v h) c
+extern-typed E u primitive.Write v A B h e c = extern-at E u primitive.Write v A B _ _ e (λ k. (sets-typed E u v k).writes h) c
+extern-typed E u primitive.Watch v A B h e c = extern-at E u primitive.Watch v A B _ _ e (λ k. (handles-typed E u v k).watches h) c
 
 -- a declared function that is known at u is typed there
 pub record BodyAt (E : Setting) (x : ℕ) (u : World) (C D A B : TypeExpression) (b : Expression) : Type 0 where
@@ -221,7 +222,7 @@ declared-typed E P u f v A B (Some g) t s k c =
     (put-in E g.parameter v g.body (local u g.ty) u g.result c.0 (at-type E nothing u v A g.ty (sym r.from) c.1) r.body)
 
 call-typed : (E : Setting) (P : Program) (u : World) (f v : Expression) (A B : TypeExpression) → Declares E P → Canonical E u f (function A B) → ValueTyped E u v A → Outcome E u B (called P f v)
-call-typed E P u f v A B t (an_extern p A' B' e) c = extern-typed E u p v A B e c
+call-typed E P u f v A B t (an_extern p A' B' h e) c = extern-typed E u p v A B h e c
 call-typed E P u f v A B t (a_declared g A' B' k) c = declared-typed E P u g v A B (slice_get P.functions g) t refl (subst (λ o. IsKnownAt o u (function A B)) (t.functions g) k) c
 call-typed E P u f v A B t (a_function x C b A' B' e d) c = put-in E x v b (local u A) u B c.0 c.1 d
 call-typed E P u f v A B t (a_recursive g x C D b A' B' r d) c =

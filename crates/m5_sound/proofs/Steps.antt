@@ -124,12 +124,12 @@ outcome-typed P E u s ts fs (leaves v e) A t o f =
     (o.0, o.1, record { of = A; stands = inl refl; typed = o.3; frames = record { here = refl; away = λ q. o.0 (sym q); real = t.real; mobile = o.2; rest = f } })
     (done-typed P E u (send v (thread (thread_of (Return u ∷ fs) (Eval v e)))) s ts tt (rest-of P E u s ts t))
 outcome-typed P E u s ts fs (says x) A t o f = tells-typed P E u s ts fs (say x) A tt o.1 o.0 t f
-outcome-typed P E u s ts fs (sets e x) A t o f = tells-typed P E u s ts fs (set e x) A tt (o.1, o.2) o.0 t f
-outcome-typed P E u s ts fs (writes k x) A t o f = tells-typed P E u s ts fs (write k x) A tt (o.1, o.2) o.0 t f
+outcome-typed P E u s ts fs (sets e x) A t o f = tells-typed P E u s ts fs (set e x) A tt o.1 o.0 t f
+outcome-typed P E u s ts fs (writes k x) A t o f = tells-typed P E u s ts fs (write k x) A tt o.1 o.0 t f
 outcome-typed P E u s ts fs (gets e) A t o f = asks-typed E u _ _ o.1 (get-text-typed P E u s ts fs e (subst (λ B. FramesTyped E u fs u B) o.0 f) (rest-of P E u s ts t))
 outcome-typed P E u s ts fs (reads k) A t o f = asks-typed E u _ _ o.1 (read-typed P E u s ts fs k (subst (λ B. FramesTyped E u fs u B) o.0 f) (rest-of P E u s ts t))
-outcome-typed P E u s ts fs (handles e h) A t o f = handler-added P E u s ts fs (on e) h A tt o.1 o.0 o.2 t f
-outcome-typed P E u s ts fs (watches k h) A t o f = handler-added P E u s ts fs (watch k) h A tt o.1 o.0 o.2 t f
+outcome-typed P E u s ts fs (handles e h) A t o f = handler-added P E u s ts fs (on e) h A tt (o.1 (length s.handlers)) o.0 o.2 t f
+outcome-typed P E u s ts fs (watches k h) A t o f = handler-added P E u s ts fs (watch k) h A tt (o.1 (length s.handlers)) o.0 o.2 t f
 outcome-typed P E u s ts fs wrong A t o f = absurd o
 
 -- a hole is filled

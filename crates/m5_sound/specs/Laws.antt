@@ -1,6 +1,6 @@
 -- The laws of typed runs.
 use Rattle.std.specs.Prelude.{◌≡◌, ◌≢◌, ◌⊎◌, ℕ, false, Option, List, [], ◌∷◌, ◌++◌, map}
-use Rattle.std.specs.List.{AllByRecursion as Each}
+use Rattle.std.specs.List.{All, AllByRecursion as Each}
 use Rattle.m5_terms.specs.declared.types.World.{World}
 use Rattle.m5_terms.specs.declared.types.World.TheVariants.{Any}
 use Rattle.m5_terms.specs.declared.ask.Cause.{Cause}
@@ -12,7 +12,7 @@ use Rattle.m5_meaning.specs.Site.{Program, Thread, Site, Item}
 use Rattle.m5_meaning.specs.Step.{site_next}
 use Rattle.m5_script.specs.Scenario.{Scenario, IsScript}
 use Rattle.m5_network.specs.Entries.{Deed, entry_of}
-use Rattle.m5_network.specs.Claim.{has_seal}
+use Rattle.m5_network.specs.Claim.{has_seal, primitive_of, IsAtItsWorld}
 use Rattle.m5_network.specs.Opening.{opening}
 use Rattle.m5_network.specs.Run.{Network, Place, IsSite, IsAtRest, Step, Run}
 use Rattle.m5_sound.specs.Settings.{setting, Grows}
@@ -59,6 +59,12 @@ SomethingCanHappen =
     (P : Program) (S : Scenario) (ps : List Place) (ds : List (Deed Item)) (N : Network) (s : ℕ) (w : World) → IsProgram P → IsScript S → Run P S (opening P S) ps ds N →
     IsSite S s w → (N.site s w).stopped ≡ false →
     IsAtRest P N s w ⊎ ((cause : Option Cause) × (d : Deed Item) × (M : Network) × Step P S N (record { session = s; world = w; cause = cause }) d M)
+
+-- each entry that shows a primitive's call is at the world of the primitive
+abbrev pub PrimitivesAreAtTheirWorlds : Type 0
+PrimitivesAreAtTheirWorlds =
+    (P : Program) (S : Scenario) (ps : List Place) (ds : List (Deed Item)) (N : Network) → IsProgram P → IsScript S → Run P S (opening P S) ps ds N →
+    All (λ (e : Entry). IsAtItsWorld (primitive_of e.act) e.world) (map (entry_of has_seal) ds)
 
 pub record AllTexts (N : Network) (x : Site) (ds : List (Deed Item)) : Type 0 where
   pub site : SiteHasTexts x

@@ -4,6 +4,8 @@ use Rattle.std.specs.List.{AllByRecursion as Each, AllZip}
 use Rattle.m5_terms.specs.Expression.{Expression}
 use Rattle.m5_terms.specs.TypeExpression.{TypeExpression, unit, string, function}
 use Rattle.m5_terms.specs.Text.{IsText}
+use Rattle.m5_terms.specs.Primitives.{primitive_world}
+use Rattle.m5_terms.specs.declared.types.Primitive.TheVariants as primitive
 use Rattle.m5_terms.specs.declared.types.World.{World}
 use Rattle.m5_terms.specs.declared.types.World.TheVariants.{Any}
 use Rattle.m5_typing.specs.Value.{IsValue}
@@ -37,15 +39,15 @@ abbrev pub ItemTyped : Setting → World → Item → Type 0
 ItemTyped E u (thread t) = ThreadTyped E u t
 ItemTyped E u (raw bytes) = Unit {0}
 
--- a thread is sent to another site, where it is typed
+-- a primitive is called at its own world; a thread is sent to another site, where it is typed
 abbrev pub QueryTyped : Setting → World → Query Item → Type 0
-QueryTyped E u (say t) = IsText t
-QueryTyped E u (set e t) = IsText e × IsText t
-QueryTyped E u (get_text e) = IsText e
-QueryTyped E u (on e n) = IsText e
-QueryTyped E u (read k) = IsText k
-QueryTyped E u (write k t) = IsText k × IsText t
-QueryTyped E u (watch k n) = IsText k
+QueryTyped E u (say t) = (u ≡ primitive_world primitive.Say) × IsText t
+QueryTyped E u (set e t) = (u ≡ primitive_world primitive.SetText) × IsText e × IsText t
+QueryTyped E u (get_text e) = (u ≡ primitive_world primitive.GetText) × IsText e
+QueryTyped E u (on e n) = (u ≡ primitive_world primitive.On) × IsText e
+QueryTyped E u (read k) = (u ≡ primitive_world primitive.Read) × IsText k
+QueryTyped E u (write k t) = (u ≡ primitive_world primitive.Write) × IsText k × IsText t
+QueryTyped E u (watch k n) = (u ≡ primitive_world primitive.Watch) × IsText k
 QueryTyped E u (send v i) = (v ≢ u) × (v ≢ Any) × ItemTyped E v i
 QueryTyped E u take = Unit {0}
 QueryTyped E u (stop c) = Unit {0}

@@ -1,6 +1,6 @@
 //! The laws of typed runs, each on a function that does nothing.
 
-ghost use Rattle.m5_sound.specs.Laws.{TypedSitesGoOn, OpeningIsTyped, RunsKeepTypes, AllStaysTyped, EachThreadGoesOn, NoSiteGoesWrong, SomethingCanHappen, TextsStayTexts};
+ghost use Rattle.m5_sound.specs.Laws.{TypedSitesGoOn, OpeningIsTyped, RunsKeepTypes, AllStaysTyped, EachThreadGoesOn, NoSiteGoesWrong, SomethingCanHappen, PrimitivesAreAtTheirWorlds, TextsStayTexts};
 
 /// A typed site's next step or ask is typed.
 pub fn typed_sites_go_on_holds()
@@ -35,6 +35,11 @@ pub fn no_site_goes_wrong_holds()
 /// After each run of a program each site is stopped, at rest, or can make a deed.
 pub fn something_can_happen_holds()
     ensures { SomethingCanHappen }
+{}
+
+/// Along each run of a program each primitive is called at its world.
+pub fn primitives_are_at_their_worlds_holds()
+    ensures { PrimitivesAreAtTheirWorlds }
 {}
 
 /// Along each run of a program texts have only the bytes of texts.
