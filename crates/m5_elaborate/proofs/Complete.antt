@@ -34,7 +34,8 @@ use Rattle.m5_elaborate.specs.Outcome.{Outcome, found, fault, refused, and_then}
 use Rattle.m5_elaborate.specs.Names.{under}
 use Rattle.m5_elaborate.specs.Parts.{if_same}
 use Rattle.m5_elaborate.specs.Erased.{erased}
-use Rattle.m5_elaborate.specs.Synthesis.{is_any, local_type, valid_type, declared_type, extern_type, address_type, leaf_type, unary_world, unary_binding, unary_type, second_part, binary_type, arms, ternary_type}
+use Rattle.m5_elaborate.specs.Leaves.{is_any, local_type, valid_type, declared_type, extern_type, address_type, leaf_type}
+use Rattle.m5_elaborate.specs.Synthesis.{unary_world, unary_binding, unary_type, second_part, binary_type, arms, ternary_type}
 use Rattle.m5_elaborate.specs.Checked.{checked, limited, limited_type}
 use Rattle.m5_elaborate.proofs.Same.{left_true, right_true, both_true, world_self, type_self}
 use Rattle.m5_elaborate.proofs.Outcomes.{joined}

@@ -6,3 +6,4 @@ pub mod Sound
 pub mod Complete
 pub mod Programs
 pub mod Sizes
+pub mod PairSteps

@@ -16,7 +16,8 @@ use Rattle.m5_elaborate.specs.Outcome.{Outcome, found, refused, and_then}
 use Rattle.m5_elaborate.specs.Names.{under}
 use Rattle.m5_elaborate.specs.Parts.{if_same}
 use Rattle.m5_elaborate.specs.Erased.{erased, erased_program}
-use Rattle.m5_elaborate.specs.Synthesis.{leaf_type, unary_world, unary_binding, unary_type, second_part, binary_type, arms, ternary_type}
+use Rattle.m5_elaborate.specs.Leaves.{leaf_type}
+use Rattle.m5_elaborate.specs.Synthesis.{unary_world, unary_binding, unary_type, second_part, binary_type, arms, ternary_type}
 
 -- a type has at most 1,024 nodes
 abbrev pub limited_type : Place → TypeExpression → Outcome TypeExpression

@@ -1,14 +1,10 @@
 -- The type of a node from those of its parts, one line a form, with its checks in their order.
-use Rattle.std.specs.Prelude.{ℕ, Bool, ◌&&◌, if◌then◌else◌, Option, Some, None}
+use Rattle.std.specs.Prelude.{ℕ, Bool, ◌&&◌, if◌then◌else◌}
 use Rattle.m5_lex.specs.declared.place.Place.{Place}
 use Rattle.m5_terms.specs.TypeExpression as types
-use Rattle.m5_terms.specs.TypeExpression.{TypeExpression, unit, bool, int, string, address, product, sum, function, list, cell, sham, mobile, same_type, same_world}
-use Rattle.m5_terms.specs.Primitives.{primitive_world, primitive_type}
+use Rattle.m5_terms.specs.TypeExpression.{TypeExpression, unit, bool, int, string, address, product, sum, function, list, cell, sham, mobile, same_type}
 use Rattle.m5_terms.specs.declared.types.World.{World}
 use Rattle.m5_terms.specs.declared.types.World.TheVariants.{Any}
-use Rattle.m5_terms.specs.declared.types.Primitive.{Primitive}
-use Rattle.m5_terms.specs.declared.form.LeafForm.{LeafForm}
-use Rattle.m5_terms.specs.declared.form.LeafForm.TheVariants as leaf_form
 use Rattle.m5_terms.specs.declared.form.UnaryForm.{UnaryForm}
 use Rattle.m5_terms.specs.declared.form.UnaryForm.TheVariants.{Fn, Rec, Fst, Snd, StrOf, Div, NewCell, Load, Hold, Sham, Spawn, Inl, Inr, Held}
 use Rattle.m5_terms.specs.declared.form.BinaryForm.{BinaryForm}
@@ -16,7 +12,6 @@ use Rattle.m5_terms.specs.declared.form.BinaryForm.TheVariants.{Call, Pair, Cons
 use Rattle.m5_terms.specs.declared.form.TernaryForm.{TernaryForm}
 use Rattle.m5_terms.specs.declared.form.TernaryForm.TheVariants.{If, CaseSum, CaseList}
 use Rattle.m5_typing.specs.Operators.{operand, outcome}
-use Rattle.m5_typing.specs.Context.{Bound, local, valid, Context}
 use Rattle.m5_elaborate.specs.declared.names.Bound.TheVariants as bound
 use Rattle.m5_elaborate.specs.declared.names.Binding.{Binding}
 use Rattle.m5_elaborate.specs.declared.names.Binding.TheVariants.{Nothing, One, Two}
@@ -24,47 +19,8 @@ use Rattle.m5_elaborate.specs.declared.parts.Inside.{Inside}
 use Rattle.m5_elaborate.specs.declared.arms.Arms.{Arms}
 use Rattle.m5_elaborate.specs.declared.end.Kind.TheVariants.{WrongWorld, NotMobile, Mismatch, NotSum, NotList, NotAt, NotSham, NotGeneric}
 use Rattle.m5_elaborate.specs.Outcome.{Outcome, found, refused}
+use Rattle.m5_elaborate.specs.Leaves.{is_any}
 use Rattle.m5_elaborate.specs.Parts.{if_same, first_of, second_of, content_of, applied, added, stored, injected_left, injected_right}
-
-abbrev pub is_any : World → Bool
-is_any w = same_world w Any
-
--- the bound's world is w
-abbrev pub local_type : Place → World → Option Bound → Outcome TypeExpression
-local_type p w (Some (local v A)) = if same_world v w then found A else refused WrongWorld p
-local_type p w _ = refused WrongWorld p
-
-abbrev pub valid_type : Place → Option Bound → Outcome TypeExpression
-valid_type p (Some (valid A)) = found A
-valid_type p _ = refused WrongWorld p
-
--- a declared function that is valid is used at each world
-abbrev pub declared_type : Place → World → Option Bound → Outcome TypeExpression
-declared_type p w (Some (valid A)) = found A
-declared_type p w o = local_type p w o
-
--- an extern has a world of its own
-abbrev pub extern_type : Place → World → Primitive → Outcome TypeExpression
-extern_type p w e =
-    if is_any w then refused NotGeneric p else (if same_world w (primitive_world e) then found (primitive_type e) else refused WrongWorld p)
-
-abbrev pub address_type : Place → World → Outcome TypeExpression
-address_type p w = if is_any w then refused NotGeneric p else found (address w)
-
--- F and G say what is declared and what is bound; the last form is in no text
-abbrev pub leaf_type : (ℕ → Option Bound) → Context → World → Place → LeafForm → Outcome TypeExpression
-leaf_type F G w p (leaf_form.Var x) = local_type p w (G x)
-leaf_type F G w p (leaf_form.Valid x) = valid_type p (G x)
-leaf_type F G w p (leaf_form.Glob f) = declared_type p w (F f)
-leaf_type F G w p (leaf_form.Extern e) = extern_type p w e
-leaf_type F G w p leaf_form.Unit = found unit
-leaf_type F G w p (leaf_form.Bool b) = found bool
-leaf_type F G w p (leaf_form.Int n) = found int
-leaf_type F G w p (leaf_form.Str s) = found string
-leaf_type F G w p (leaf_form.Addr v) = address_type p v
-leaf_type F G w p leaf_form.Here = address_type p w
-leaf_type F G w p (leaf_form.Nil A) = found (list A)
-leaf_type F G w p (leaf_form.CellAt v n) = refused WrongWorld p
 
 -- where a form's one part stands, and what is bound in it
 abbrev pub unary_world : UnaryForm → World → World

@@ -3,6 +3,7 @@
 ghost use Rattle.std.specs.Prelude.{◌≡◌, ◌+◌, ◌<◌, ◌^◌, IfErr, IfOk, OnOk};
 ghost use Rattle.m5_raw.specs.Resolved.{unary, binary, ternary, node_count};
 ghost use Rattle.m5_terms.specs.Opened.{viewed_unary};
+ghost use Rattle.m5_terms.specs.declared.form.BinaryForm.TheVariants.{Pair};
 ghost use Rattle.m5_elaborate.specs.Outcome.{found, IsFault};
 ghost use Rattle.m5_elaborate.specs.Names.{context, entries, under, IsShallow};
 ghost use Rattle.m5_elaborate.specs.Checked.{checked, signatures};
@@ -12,6 +13,7 @@ use crate::arms::{
 };
 use crate::end::TypeEnd;
 use crate::names::{Binding, Names, enter, leave};
+use crate::pairs::{pair_up, place_of_node, wait};
 use crate::size::limited;
 use crate::synthesis::{of_binary, of_leaf, of_unary};
 use m5_lex::Place;
@@ -104,6 +106,37 @@ fn check_binary(
     limited(place, whole)
 }
 
+/// The type of nested pairs: their first parts from left to right, the last part, and then their types from inside.
+#[cycle(check)]
+fn check_pairs(
+    alloc: Global,
+    known: &[Function],
+    names: &mut Names,
+    depth: u32,
+    world: World,
+    place: Place,
+    first: &Node,
+    second: &Node,
+) -> Result<Ty, TypeEnd>
+    requires shallow { IsShallow depth (entries names.old.items) }
+    requires room { depth + node_count (binary place Pair first.now second.now) < 2 ^ 32 }
+    ensures value { IfOk result (λ t. checked (signatures known.now) (context depth (entries names.old.items)) world (binary place Pair first.now second.now) ≡ found t) }
+    ensures names { OnOk result (entries names.new.items ≡ entries names.old.items) }
+    ensures fault { IfErr result (IsFault (checked (signatures known.now) (context depth (entries names.old.items)) world (binary place Pair first.now second.now))) }
+{
+    let mut waiting = Vec::new(alloc);
+    let ty = check(alloc, known, names, depth, world, first)?;
+    wait(&mut waiting, place, ty)?;
+    let mut rest = second;
+    while let Opened::Binary(BinaryForm::Pair, part, later) = rest.open() {
+        let ty = check(alloc, known, names, depth, world, part)?;
+        wait(&mut waiting, place_of_node(rest), ty)?;
+        rest = later;
+    }
+    let last = check(alloc, known, names, depth, world, rest)?;
+    pair_up(alloc, waiting, last)
+}
+
 #[cycle(check)]
 fn check_ternary(
     alloc: Global,
@@ -155,6 +188,9 @@ pub(crate) fn check(
         }
         Opened::Unary(form, first) => {
             check_unary(alloc, known, names, depth, world, place, form, first)
+        }
+        Opened::Binary(BinaryForm::Pair, first, second) => {
+            check_pairs(alloc, known, names, depth, world, place, first, second)
         }
         Opened::Binary(form, first, second) => {
             check_binary(

@@ -3,7 +3,7 @@
 ghost use Rattle.std.specs.Prelude.{◌≡◌, IfErr, IfOk};
 ghost use Rattle.m5_elaborate.specs.Outcome.{found, IsFault};
 ghost use Rattle.m5_elaborate.specs.Checked.{signatures};
-ghost use Rattle.m5_elaborate.specs.Synthesis.{declared_type};
+ghost use Rattle.m5_elaborate.specs.Leaves.{declared_type};
 
 use crate::end::{Kind, TypeEnd};
 use crate::synthesis::function_of;

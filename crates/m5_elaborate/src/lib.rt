@@ -8,7 +8,10 @@ pub mod elaborate;
 pub mod end;
 mod erase;
 pub mod names;
+mod pairs;
 mod parts;
 mod size;
 mod synthesis;
+#[cfg(test)]
+mod tests;
 mod value_form;

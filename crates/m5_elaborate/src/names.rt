@@ -2,7 +2,7 @@
 
 ghost use Rattle.std.specs.Prelude.{◌≡◌, ◌<◌, ℕ, vec_len, IfErr, IfOk, OnOk};
 ghost use Rattle.m5_elaborate.specs.Outcome.{found, IsFault};
-ghost use Rattle.m5_elaborate.specs.Synthesis.{local_type, valid_type};
+ghost use Rattle.m5_elaborate.specs.Leaves.{local_type, valid_type};
 ghost use Rattle.m5_elaborate.specs.Names.{context, entered, entries, left, put, under};
 
 use crate::end::{Kind, TypeEnd};

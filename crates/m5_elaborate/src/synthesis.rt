@@ -10,7 +10,8 @@ ghost use Rattle.m5_elaborate.specs.Outcome.{found, IsFault};
 ghost use Rattle.m5_elaborate.specs.Parts.{if_same};
 ghost use Rattle.m5_elaborate.specs.Names.{context, entries};
 ghost use Rattle.m5_elaborate.specs.Checked.{signatures};
-ghost use Rattle.m5_elaborate.specs.Synthesis.{is_any, address_type, extern_type, leaf_type, hold_type, sham_type, unary_type, moved_type, binary_type};
+ghost use Rattle.m5_elaborate.specs.Leaves.{is_any, address_type, extern_type, leaf_type};
+ghost use Rattle.m5_elaborate.specs.Synthesis.{hold_type, sham_type, unary_type, moved_type, binary_type};
 
 use crate::declared::declared;
 use crate::end::{Kind, TypeEnd};
