@@ -34,10 +34,10 @@ use Rattle.m5_elaborate.specs.declared.names.Binding.TheVariants.{Nothing, One, 
 use Rattle.m5_elaborate.specs.declared.parts.Inside.{Inside}
 use Rattle.m5_elaborate.specs.declared.arms.Arms.{Arms}
 use Rattle.m5_elaborate.specs.Names.{under}
-use Rattle.m5_elaborate.specs.Parts.{first_of, second_of, content_of, applied, added, stored, injected_left, injected_right}
+use Rattle.m5_elaborate.specs.Parts.{first_of, second_of, content_of, applied, added, stored, injected_left, injected_right, moved_type}
 use Rattle.m5_elaborate.specs.Erased.{erased}
 use Rattle.m5_elaborate.specs.Leaves.{is_any, local_type, valid_type, declared_type, extern_type, address_type, leaf_type}
-use Rattle.m5_elaborate.specs.Synthesis.{unary_world, unary_binding, unary_type, addressed, second_part, moved_type, binary_type, arms, ternary_type}
+use Rattle.m5_elaborate.specs.Synthesis.{unary_world, unary_binding, unary_type, addressed, second_part, binary_type, arms, ternary_type}
 use Rattle.m5_elaborate.specs.Checked.{checked, limited}
 use Rattle.m5_elaborate.proofs.Same.{left_true, right_true, both_true, world_same, type_same}
 use Rattle.m5_elaborate.proofs.Outcomes.{found_is, both, passed, allowed, limits}

@@ -23,6 +23,7 @@ use Rattle.m5_elaborate.specs.Synthesis.{unary_world, unary_binding, unary_type,
 abbrev pub limited_type : Place → TypeExpression → Outcome TypeExpression
 limited_type p A = if nat_le (type_node_count A) 1024 then found A else refused TooLarge p
 
+-- the check on the size comes last
 abbrev pub limited : Place → Outcome TypeExpression → Outcome TypeExpression
 limited p o = and_then o (limited_type p)
 
@@ -46,6 +47,7 @@ abbrev pub declared_bound : Option Function → Option Bound
 declared_bound None = None
 declared_bound (Some g) = Some (bound_at g.world (function g.ty g.result))
 
+-- the bound of each declared function
 abbrev pub signatures : List Function → ℕ → Option Bound
 signatures known = λ f. declared_bound (slice_get known f)
 
@@ -56,6 +58,7 @@ function_checked known g =
     (λ T. and_then (checked (signatures known) (with g.parameter (Some (local g.world g.ty)) nothing) g.world g.body)
     (λ B. if_same (same_type B g.result) g.place T))
 
+-- the main term is unit at home
 abbrev pub main_checked : RawTerm → Outcome TypeExpression
 main_checked r = and_then (checked (signatures r.functions) nothing Home r.main) (λ A. if_same (same_type A unit) r.place A)
 
@@ -64,5 +67,6 @@ abbrev pub rest_elaborated : List Function → List Function → RawTerm → Out
 rest_elaborated known [] r = and_then (main_checked r) (λ A. found (erased_program r))
 rest_elaborated known (g ∷ gs) r = and_then (function_checked (known ++ g ∷ []) g) (λ T. rest_elaborated (known ++ g ∷ []) gs r)
 
+-- a program without its places, or its first fault
 abbrev pub elaborated : RawTerm → Outcome ProgramTerm
 elaborated r = rest_elaborated [] r.functions r

@@ -12,6 +12,7 @@ use Rattle.m5_typing.specs.Context.{Bound, local, valid, Context}
 use Rattle.m5_elaborate.specs.declared.end.Kind.TheVariants.{WrongWorld, NotGeneric}
 use Rattle.m5_elaborate.specs.Outcome.{Outcome, found, refused}
 
+-- no world is known
 abbrev pub is_any : World → Bool
 is_any w = same_world w Any
 
@@ -20,6 +21,7 @@ abbrev pub local_type : Place → World → Option Bound → Outcome TypeExpress
 local_type p w (Some (local v A)) = if same_world v w then found A else refused WrongWorld p
 local_type p w _ = refused WrongWorld p
 
+-- a valid name is used at each world
 abbrev pub valid_type : Place → Option Bound → Outcome TypeExpression
 valid_type p (Some (valid A)) = found A
 valid_type p _ = refused WrongWorld p
@@ -34,6 +36,7 @@ abbrev pub extern_type : Place → World → Primitive → Outcome TypeExpressio
 extern_type p w e =
     if is_any w then refused NotGeneric p else (if same_world w (primitive_world e) then found (primitive_type e) else refused WrongWorld p)
 
+-- the address of a world that is known
 abbrev pub address_type : Place → World → Outcome TypeExpression
 address_type p w = if is_any w then refused NotGeneric p else found (address w)
 

@@ -12,6 +12,7 @@ use Rattle.m5_elaborate.specs.declared.names.Entry.{Entry}
 use Rattle.m5_elaborate.specs.declared.names.Outer.{Outer}
 use Rattle.m5_elaborate.specs.declared.names.Outer.TheVariants as outer
 
+-- what the rules call a bound
 abbrev pub bound_of : Bound → typing.Bound
 bound_of (Local w A) = typing.local w A
 bound_of (Valid A) = typing.valid A
@@ -26,9 +27,11 @@ under (Two x b y c) G = with x (Some (bound_of b)) (with y (Some (bound_of c)) G
 abbrev pub Entries : Type 0
 Entries = ℕ → Option Entry
 
+-- a number past the end has no entry
 abbrev pub entries : List (Option Entry) → Entries
 entries table = λ y. slice_index_or table y None
 
+-- another entry for one number
 abbrev pub put : ℕ → Option Entry → Entries → Entries
 put x e s = λ y. if y == x then e else s y
 
@@ -37,17 +40,21 @@ abbrev pub seen_bound : ℕ → ℕ → Bound → Option typing.Bound
 seen_bound depth own (Valid A) = Some (typing.valid A)
 seen_bound depth own (Local w A) = if own == depth then Some (typing.local w A) else None
 
+-- what an entry says at a depth
 abbrev pub seen : ℕ → Option Entry → Option typing.Bound
 seen depth None = None
 seen depth (Some e) = seen_bound depth e.depth e.bound
 
+-- what is known at a depth
 abbrev pub context : ℕ → Entries → Context
 context depth s = λ y. seen depth (s y)
 
+-- the depth at which a name was bound
 abbrev pub depth_of : Option Entry → ℕ
 depth_of None = 0
 depth_of (Some e) = e.depth
 
+-- the part of a `sham` is one further in
 abbrev pub part_depth : UnaryForm → ℕ → ℕ
 part_depth Sham depth = depth + 1
 part_depth _ depth = depth
@@ -61,9 +68,11 @@ pub record IsBare (s : Entries) : Type 0 where
   pub known : context 0 s ≡ nothing
   pub shallow : IsShallow 0 s
 
+-- the entry of a name that is bound at this depth
 abbrev pub entry : ℕ → Bound → Option Entry
 entry depth b = Some (record { depth = depth; bound = b })
 
+-- the entries inside a form's binders
 abbrev pub entered : ℕ → Binding → Entries → Entries
 entered depth Nothing s = s
 entered depth (One x b) s = put x (entry depth b) s

@@ -5,10 +5,12 @@ use Rattle.m5_elaborate.specs.declared.end.Kind.{Kind}
 use Rattle.m5_elaborate.specs.declared.end.TypeEnd.{TypeEnd}
 use Rattle.m5_elaborate.specs.declared.end.TypeEnd.TheVariants.{Memory, Refused}
 
+-- something found, or the first fault
 pub data Outcome (A : Type 0) : Type 0 where
   found : A → Outcome A
   fault : TypeEnd → Outcome A
 
+-- a check of this kind failed at the node of this place
 abbrev pub refused : {A : Type 0} → Kind → Place → Outcome A
 refused k p = fault (Refused k p)
 

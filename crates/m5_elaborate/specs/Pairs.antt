@@ -11,6 +11,7 @@ use Rattle.m5_elaborate.specs.Checked.{limited}
 abbrev pub paired : Waiting → Outcome TypeExpression → Outcome TypeExpression
 paired e o = limited e.place (and_then o (λ B. found (product e.ty B)))
 
+-- the type of the outermost one
 abbrev pub nested : List Waiting → Outcome TypeExpression → Outcome TypeExpression
 nested [] o = o
 nested (e ∷ es) o = paired e (nested es o)

@@ -20,23 +20,18 @@ use Rattle.m5_elaborate.specs.declared.arms.Arms.{Arms}
 use Rattle.m5_elaborate.specs.declared.end.Kind.TheVariants.{WrongWorld, NotMobile, Mismatch, NotSum, NotList, NotAt, NotSham, NotGeneric}
 use Rattle.m5_elaborate.specs.Outcome.{Outcome, found, refused}
 use Rattle.m5_elaborate.specs.Leaves.{is_any}
-use Rattle.m5_elaborate.specs.Parts.{if_same, first_of, second_of, content_of, applied, added, stored, injected_left, injected_right}
+use Rattle.m5_elaborate.specs.Parts.{if_same, first_of, second_of, content_of, applied, added, stored, injected_left, injected_right, hold_type, sham_type, moved_type}
 
--- where a form's one part stands, and what is bound in it
+-- where a form's one part stands
 abbrev pub unary_world : UnaryForm → World → World
 unary_world Sham w = Any
 unary_world _ w = w
 
+-- and what is bound in it
 abbrev pub unary_binding : UnaryForm → World → Binding
 unary_binding (Fn x A) w = One x (bound.Local w A)
 unary_binding (Rec f x A B) w = Two x (bound.Local w A) f (bound.Local w (function A B))
 unary_binding _ w = Nothing
-
-abbrev pub hold_type : Place → World → TypeExpression → Outcome TypeExpression
-hold_type p w B = if is_any w then refused NotGeneric p else found (types.at B w)
-
-abbrev pub sham_type : Place → Bool → TypeExpression → Outcome TypeExpression
-sham_type p v B = if v then found (sham B) else refused NotGeneric p
 
 -- from the part's type, and whether the part is a value form; the last form is in no text
 abbrev pub unary_type : UnaryForm → Place → World → Bool → TypeExpression → Outcome TypeExpression
@@ -55,24 +50,30 @@ unary_type Sham p w v B = sham_type p v B
 unary_type Spawn p w v B = if_same (same_type B unit) p unit
 unary_type (Held u) p w v B = refused WrongWorld p
 
+-- a second part stands at w, with these binders
 abbrev pub inside : World → Binding → Outcome Inside
 inside w b = found (record { world = w; binding = b })
 
+-- only a mobile type is put
 abbrev pub put_part : ℕ → Place → World → TypeExpression → Outcome Inside
 put_part x p w A = if mobile A then inside w (One x (bound.Valid A)) else refused NotMobile p
 
+-- what is held at v is a local name of v
 abbrev pub opened_hold : ℕ → Place → World → TypeExpression → Outcome Inside
 opened_hold x p w (types.at A v) = if is_any v then refused NotAt p else inside w (One x (bound.Local v A))
 opened_hold x p w _ = refused NotAt p
 
+-- what is sham is a valid name
 abbrev pub opened_sham : ℕ → Place → World → TypeExpression → Outcome Inside
 opened_sham x p w (sham A) = inside w (One x (bound.Valid A))
 opened_sham x p w _ = refused NotSham p
 
+-- an address says where the second part stands
 abbrev pub addressed : Place → TypeExpression → Outcome Inside
 addressed p (address v) = if is_any v then refused Mismatch p else inside v Nothing
 addressed p _ = refused Mismatch p
 
+-- what is got from elsewhere needs a world to come to
 abbrev pub get_part : Place → World → TypeExpression → Outcome Inside
 get_part p w A = if is_any w then refused NotGeneric p else addressed p A
 
@@ -85,10 +86,6 @@ second_part (Lets x) p w A = opened_sham x p w A
 second_part Get p w A = get_part p w A
 second_part _ p w A = inside w Nothing
 
--- what comes from another world is mobile
-abbrev pub moved_type : Place → TypeExpression → Outcome TypeExpression
-moved_type p B = if mobile B then found B else refused NotMobile p
-
 -- from the types of both parts
 abbrev pub binary_type : BinaryForm → Place → TypeExpression → TypeExpression → Outcome TypeExpression
 binary_type Call p A B = applied p A B
@@ -99,10 +96,12 @@ binary_type (Binary o) p A B = if_same (same_type A (operand o) && same_type B (
 binary_type Get p A B = moved_type p B
 binary_type _ p A B = found B
 
+-- each arm of a sum knows its part
 abbrev pub sum_arms : ℕ → ℕ → Place → World → TypeExpression → Outcome Arms
 sum_arms x y p w (sum A B) = found (record { second = One x (bound.Local w A); third = One y (bound.Local w B) })
 sum_arms x y p w _ = refused NotSum p
 
+-- the last arm of a list knows its head and its tail, the tail innermost
 abbrev pub list_arms : ℕ → ℕ → Place → World → TypeExpression → Outcome Arms
 list_arms x y p w (list A) = found (record { second = Nothing; third = Two y (bound.Local w (list A)) x (bound.Local w A) })
 list_arms x y p w _ = refused NotList p

@@ -7,11 +7,11 @@ ghost use Rattle.m5_typing.specs.Operators.{operand, outcome};
 ghost use Rattle.m5_typing.specs.Value.{is_value_form};
 ghost use Rattle.m5_elaborate.specs.Erased.{erased};
 ghost use Rattle.m5_elaborate.specs.Outcome.{found, IsFault};
-ghost use Rattle.m5_elaborate.specs.Parts.{if_same};
+ghost use Rattle.m5_elaborate.specs.Parts.{if_same, hold_type, sham_type, moved_type};
 ghost use Rattle.m5_elaborate.specs.Names.{context, entries};
 ghost use Rattle.m5_elaborate.specs.Checked.{signatures};
 ghost use Rattle.m5_elaborate.specs.Leaves.{is_any, address_type, extern_type, leaf_type};
-ghost use Rattle.m5_elaborate.specs.Synthesis.{hold_type, sham_type, unary_type, moved_type, binary_type};
+ghost use Rattle.m5_elaborate.specs.Synthesis.{unary_type, binary_type};
 
 use crate::declared::declared;
 use crate::end::{Kind, TypeEnd};
