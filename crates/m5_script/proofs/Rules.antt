@@ -84,6 +84,7 @@ by_sessions r n h f =
       items = record {
         texts = h.items.texts;
         keys = h.items.keys;
+        few_pairs = h.items.few_pairs;
         events = none_there (IsEvent n) r.events none.0;
         few_events = h.items.few_events;
         raws = none_there (IsRaw n) r.raws none.1;
@@ -94,11 +95,12 @@ by_sessions r n h f =
       empty = λ e. absurd cc;
     }
 
-by_store : (r : Reading) (p : TextPair) → AreItems r.sessions r.pairs r.events r.raws r.order → IsPair p → list_any (same_key p.key) r.pairs ≡ false
+by_store : (r : Reading) (p : TextPair) → AreItems r.sessions r.pairs r.events r.raws r.order → IsPair p → list_any (same_key p.key) r.pairs ≡ false → nat_le 1024 (length r.pairs) ≡ false
     → AreItems r.sessions (r.pairs ++ p ∷ []) r.events r.raws r.order
-by_store r p h k new = record {
+by_store r p h k new room = record {
   texts = All-push IsPair r.pairs p h.texts k;
   keys = all_pairs_push (λ (first second : TextPair). same_key second.key first ≡ false) r.pairs p h.keys (none_passes (same_key p.key) r.pairs new);
+  few_pairs = one_more 1024 r.pairs p room;
   events = h.events;
   few_events = h.few_events;
   raws = h.raws;
@@ -112,6 +114,7 @@ by_event : (r : Reading) (e : PageEvent) → AreItems r.sessions r.pairs r.event
 by_event r e h k room = record {
   texts = h.texts;
   keys = h.keys;
+  few_pairs = h.few_pairs;
   events = All-push (IsEvent r.sessions) r.events e h.events k;
   few_events = one_more 4096 r.events e room;
   raws = h.raws;
@@ -125,6 +128,7 @@ by_raw : (r : Reading) (i : RawItem) → AreItems r.sessions r.pairs r.events r.
 by_raw r i h k room = record {
   texts = h.texts;
   keys = h.keys;
+  few_pairs = h.few_pairs;
   events = h.events;
   few_events = h.few_events;
   raws = All-push (IsRaw r.sessions) r.raws i h.raws k;
@@ -141,6 +145,7 @@ by_order : (r : Reading) (sites : List SiteName) → AreItems r.sessions r.pairs
 by_order r sites h k room = record {
   texts = h.texts;
   keys = h.keys;
+  few_pairs = h.few_pairs;
   events = h.events;
   few_events = h.few_events;
   raws = h.raws;
@@ -171,7 +176,8 @@ next_holds r (form.Sessions n) h k none = by_sessions r n h (faults r (form.Sess
 next_holds r (form.Steps n) h k none = record { sessions = h.sessions; steps = lies_within 200000 n (faults r (form.Steps n) none).beyond; region = h.region; items = h.items; empty = λ e. absurd cc }
 next_holds r (form.Region n) h k none = record { sessions = h.sessions; steps = h.steps; region = lies_within 262144 n (faults r (form.Region n) none).beyond; items = h.items; empty = λ e. absurd cc }
 next_holds r (form.Store key text) h k none =
-    with_items r _ h refl refl refl refl (by_store r (record { key = key; text = text }) h.items k (faults r (form.Store key text) none).again)
+    let f = faults r (form.Store key text) none in
+    with_items r _ h refl refl refl refl (by_store r (record { key = key; text = text }) h.items k f.again f.many)
 next_holds r (form.Event session element text) h k none =
     let f = faults r (form.Event session element text) none in
     with_items r _ h refl refl refl refl
@@ -196,6 +202,7 @@ fresh_holds = record {
   items = record {
     texts = none_there IsPair [] refl;
     keys = λ i j d less near. absurd (omega arith);
+    few_pairs = omega arith;
     events = none_there (IsEvent 1) [] refl;
     few_events = omega arith;
     raws = none_there (IsRaw 1) [] refl;

@@ -58,6 +58,7 @@ pub record IsSite (sessions : ℕ) (site : SiteName) : Type 0 where
 pub record AreItems (sessions : ℕ) (ps : List TextPair) (es : List PageEvent) (rs : List RawItem) (sites : List SiteName) : Type 0 where
   pub texts : All IsPair ps
   pub keys : AllPairs (λ first second. same_key second.key first ≡ false) ps
+  pub few_pairs : length ps ≤ 1024
   pub events : All (IsEvent sessions) es
   pub few_events : length es ≤ 4096
   pub raws : All (IsRaw sessions) rs
