@@ -1,7 +1,7 @@
 -- What a source and a sink in memory hold, as contracts see them.
 use Rattle.std.specs.Prelude.{ℕ, ◌+◌, ◌-◌, ◌^◌, min, List}
 
--- the number of the call that follows so many calls, which stands still at the last number
+-- the number of the call that follows so many calls, or of the fault after so many; it stands still at the last number
 abbrev pub next_call : ℕ → ℕ
 next_call calls = min (calls + 1) (2 ^ 64 - 1)
 

@@ -1,6 +1,6 @@
 //! Where bytes go: the trait, and a sink over memory that takes pieces and fails at chosen calls.
 
-ghost use Rattle.std.specs.Prelude.{◌≡◌, ◌↔◌, ◌⊎◌, ◌+◌, ◌-◌, ◌^◌, ◌≤◌, ◌<◌, ◌++◌, ℕ, List, [], length, take, min, IfOk, OnOk, OnErr, IsErr, Contains, Some};
+ghost use Rattle.std.specs.Prelude.{◌≡◌, ◌↔◌, ◌⊎◌, ◌+◌, ◌-◌, ◌^◌, ◌≤◌, ◌<◌, ◌++◌, ℕ, List, [], length, take, min, IfOk, OnOk, OnErr, IsErr, MatchResult, Contains, Some};
 ghost use Rattle.std.specs.Io.{WritesAtMost};
 ghost use Rattle.std.specs.Io.KnownBytes.{WriteAppends};
 ghost use Rattle.std.specs.declared.option.Option.{Option};
@@ -110,6 +110,8 @@ impl Sink for MemSink {
         ensures fails { (IsErr result) ↔ ((Contains self.old.fails (next_call self.old.calls))
             ⊎ ((0 < length from.now) × (self.old.room ≤ length self.old.taken))) }
         ensures calls { self.new.calls ≡ next_call self.old.calls }
+        // The count of faults rises with a failure alone.
+        ensures faults { MatchResult result (λ _. self.new.faults ≡ self.old.faults) (λ _. self.new.faults ≡ next_call self.old.faults) }
         ensures same { (self.new.fails ≡ self.old.fails) × (self.new.piece ≡ self.old.piece) × (self.new.room ≡ self.old.room) }
         ensures piece { IfOk result (λ n. n ≡ min self.old.piece (min (length from.now) (self.old.room - length self.old.taken))) }
     {

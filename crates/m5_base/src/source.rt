@@ -1,6 +1,6 @@
 //! Where bytes come from: the trait, and a source over memory that gives pieces and fails at chosen calls.
 
-ghost use Rattle.std.specs.Prelude.{◌≡◌, ◌↔◌, ◌+◌, ◌-◌, ◌^◌, ◌≤◌, ◌<◌, ℕ, List, length, take, drop, min, IfOk, OnOk, OnErr, IsErr, Contains, Some};
+ghost use Rattle.std.specs.Prelude.{◌≡◌, ◌↔◌, ◌+◌, ◌-◌, ◌^◌, ◌≤◌, ◌<◌, ℕ, List, length, take, drop, min, IfOk, OnOk, OnErr, IsErr, MatchResult, Contains, Some};
 ghost use Rattle.std.specs.Io.{ReadsAtMost};
 ghost use Rattle.std.specs.Io.KnownBytes.{ReadConsumes};
 ghost use Rattle.std.specs.declared.option.Option.{Option};
@@ -92,6 +92,8 @@ impl Source for MemSource {
         // A failure comes exactly at the calls with the chosen numbers.
         ensures fails { (IsErr result) ↔ (Contains self.old.fails (next_call self.old.calls)) }
         ensures calls { self.new.calls ≡ next_call self.old.calls }
+        // The count of faults rises with a failure alone.
+        ensures faults { MatchResult result (λ _. self.new.faults ≡ self.old.faults) (λ _. self.new.faults ≡ next_call self.old.faults) }
         ensures same { (self.new.fails ≡ self.old.fails) × (self.new.piece ≡ self.old.piece) }
         ensures piece { IfOk result (λ n. n ≡ min self.old.piece (min (length into.old) (length self.old.left))) }
     {

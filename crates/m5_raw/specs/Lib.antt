@@ -1,6 +1,5 @@
 pub mod Resolved
 pub mod TermMeaning
 pub mod Opened
-pub mod Erased
 pub mod InText
 pub mod RawTerm

@@ -1,5 +1,5 @@
 -- A resolved term is one that a text has, and has the nodes of the expression.
-use Rattle.std.proofs.Common.{◌≡◌, ℕ, ◌+◌, Bool, true, false, cond, leb, ◌&&◌, IsTrue, ℤ, pos, Option, Some, None, List, [], ◌∷◌, ◌++◌, length, refl, arith}
+use Rattle.std.proofs.Common.{◌≡◌, ℕ, ◌+◌, Bool, true, false, cond, leb, IsTrue, pos, Option, Some, None, List, ◌++◌, length, refl, arith}
 use Rattle.std.proofs.lemmas.List.{length-append}
 use Rattle.std.specs.List.{list_all}
 use Rattle.m5_lex.specs.declared.place.Place.{Place}
@@ -20,12 +20,12 @@ use Rattle.m5_scope.specs.Places.{type_places, leaf_places, unary_places, places
 use Rattle.m5_scope.specs.Meaning.{Scope, entered}
 use Rattle.m5_scope.specs.declared.meaning.Meaning.{Meaning}
 use Rattle.m5_scope.specs.declared.meaning.Meaning.TheVariants as means
-use Rattle.m5_scope.specs.Forms.{unary_resolved, unary_binding, unary_count, binary_resolved, binary_binding, binary_count, ternary_resolved, second_binding, third_binding, second_count, third_count}
+use Rattle.m5_scope.specs.Forms.{unary_resolved, unary_binding, unary_count, binary_binding, binary_count, second_binding, third_binding, second_count, third_count}
 use Rattle.m5_raw.specs.InText.{leaf_type_nodes, unary_type_nodes, written_nodes, leaf_in_text, unary_in_text, in_text}
 use Rattle.m5_terms.specs.declared.form.LeafForm.TheVariants as leaf_form
 use Rattle.m5_scope.specs.declared.end.ScopeEnd.TheVariants.{Memory}
 use Rattle.m5_scope.specs.Resolving.{binders, Outcome, found, fault, and_then, named, leaf_resolved, resolved}
-use Rattle.m5_raw.specs.Resolved.{Resolved, leaf, unary, binary, ternary}
+use Rattle.m5_raw.specs.Resolved.{Resolved}
 
 -- a type has as many nodes as the written one
 pub type_counts : (t : TypeSyntax) → type_node_count (type_of t) ≡ length (type_places t)

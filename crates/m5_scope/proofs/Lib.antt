@@ -6,3 +6,4 @@ pub mod Raws
 pub mod Spine
 pub mod Externs
 pub mod Declaring
+pub mod Numbered

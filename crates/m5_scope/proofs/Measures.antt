@@ -1,5 +1,5 @@
 -- What decreases along the parts of a tuple.
-use Rattle.std.proofs.Common.{◌≡◌, ℕ, ◌+◌, ◌*◌, ◌<◌, ◌≤◌, List, [], ◌∷◌, length, arith}
+use Rattle.std.proofs.Common.{ℕ, ◌+◌, ◌*◌, ◌<◌, ◌≤◌, List, [], ◌∷◌, length, arith}
 use Rattle.m5_lex.specs.declared.place.Place.{Place}
 use Rattle.m5_tree.specs.Syntax.{Syntax, leaf, unary, binary, ternary, node_count}
 use Rattle.m5_tree.specs.Tuple.{pairs, tuple}

@@ -1,5 +1,5 @@
 -- What a program's parts make of the whole.
-use Rattle.std.proofs.Common.{◌≡◌, ℕ, zero, suc, ◌+◌, ◌*◌, ◌<◌, ◌≤◌, List, [], ◌++◌, Option, Some, None, length, get_or, refl, subst, ap, sym, ◌∙◌, arith}
+use Rattle.std.proofs.Common.{◌≡◌, ℕ, zero, suc, ◌+◌, ◌≤◌, List, [], ◌++◌, None, length, refl, subst, ap, sym, ◌∙◌, arith}
 use Rattle.std.proofs.lemmas.List.{length-append}
 use Rattle.std.proofs.Math.ListN.{replicate}
 use Rattle.m5_lex.specs.declared.place.Place.{Place}
@@ -8,7 +8,6 @@ use Rattle.m5_tree.specs.declared.tree.Function as trees
 use Rattle.m5_tree.specs.declared.tree.Program as programs
 use Rattle.m5_scope.specs.Places.{places, extern_lists, function_lists, program_places}
 use Rattle.m5_scope.specs.Meaning.{Scope, known, nothing_known}
-use Rattle.m5_scope.specs.declared.meaning.Meaning.{Meaning}
 use Rattle.m5_raw.specs.Resolved.{Resolved}
 use Rattle.m5_scope.specs.Resolving.{Outcome, found, fault, and_then, IsFault, binders, resolved}
 use Rattle.m5_raw.specs.RawTerm.{RawTerm, IsRaw}

@@ -1,10 +1,10 @@
 -- Tables of meanings as scopes, and entries that are put back.
-use Rattle.std.proofs.Common.{◌≡◌, ◌==◌, ℕ, zero, suc, ◌<◌, cond, List, [], ◌∷◌, Option, Some, None, length, get_or, set, refl, ap, sym, ◌∙◌, inl, inr, arith}
+use Rattle.std.proofs.Common.{◌≡◌, ℕ, zero, suc, ◌<◌, cond, List, [], ◌∷◌, Option, Some, None, length, get_or, set, refl, ap, sym, ◌∙◌, inl, inr}
 use Rattle.std.proofs.lemmas.List.{get_or-set_other}
 use Rattle.std.proofs.lemmas.Grind.{get_or-set_at}
 use Rattle.std.proofs.lemmas.Bool.Decides.{eqb_tells}
 use Rattle.m5_scope.specs.declared.meaning.Meaning.{Meaning}
-use Rattle.m5_scope.specs.Meaning.{known, hides, left, entered}
+use Rattle.m5_scope.specs.Meaning.{known, hides}
 
 known_at : (table : List (Option Meaning)) (x : ℕ) (m : Meaning) (y : ℕ) → x < length table → known (set table x (Some m)) y ≡ hides (known table) x m y
 known_at table x m y h =

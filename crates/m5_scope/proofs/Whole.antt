@@ -1,5 +1,5 @@
 -- A resolved program is one that a text has, and has the nodes of the tree without those of externs.
-use Rattle.std.proofs.Common.{◌≡◌, ℕ, ◌+◌, ◌*◌, ◌≤◌, Bool, true, ◌&&◌, IsTrue, Option, Some, None, List, [], ◌∷◌, ◌++◌, length, sum_by, refl, subst, arith}
+use Rattle.std.proofs.Common.{◌≡◌, ℕ, ◌+◌, ◌*◌, ◌≤◌, IsTrue, Option, Some, None, List, [], ◌∷◌, ◌++◌, length, sum_by, subst, arith}
 use Rattle.std.specs.List.{list_all}
 use Rattle.std.proofs.lemmas.List.{length-append}
 use Rattle.std.proofs.lemmas.List.Sums.{sum_by-append}
@@ -13,18 +13,16 @@ use Rattle.m5_tree.specs.declared.form.BinaryForm.TheVariants as binary_tree
 use Rattle.m5_tree.specs.declared.form.TernaryForm as tree_ternary
 use Rattle.m5_tree.specs.declared.form.TernaryForm.TheVariants as ternary_tree
 use Rattle.m5_tree.specs.declared.tree.Function as functions
-use Rattle.m5_terms.specs.TypeExpression.{type_node_count}
-use Rattle.m5_scope.specs.Written.{type_of}
 use Rattle.m5_scope.specs.Places.{type_places, unary_places, places, function_places, function_lists}
 use Rattle.m5_scope.specs.Forms.{unary_count, binary_count, second_count, third_count}
-use Rattle.m5_raw.specs.InText.{written_nodes, in_text}
+use Rattle.m5_raw.specs.InText.{in_text}
 use Rattle.m5_scope.specs.Meaning.{Scope, hides}
 use Rattle.m5_scope.specs.declared.meaning.Meaning.{Meaning}
 use Rattle.m5_scope.specs.declared.meaning.Meaning.TheVariants.{Var, Glob}
-use Rattle.m5_scope.specs.Resolving.{Outcome, found, fault, binders, resolved}
+use Rattle.m5_scope.specs.Resolving.{Outcome, binders}
 use Rattle.m5_raw.specs.declared.function.Function.{Function}
 use Rattle.m5_raw.specs.RawTerm.{RawTerm, function_nodes, raw_nodes}
-use Rattle.m5_scope.specs.Program.{once, function_resolved, main_resolved, functions_resolved, list_binders}
+use Rattle.m5_scope.specs.Program.{once, function_resolved, functions_resolved, list_binders}
 use Rattle.m5_scope.proofs.Counting.{type_counts, Holds, holds_then, IsWritten, resolved_written}
 
 unary_few : (f : tree_unary.UnaryForm) → unary_count f ≤ 2
@@ -79,7 +77,7 @@ pub record IsSound (count : ℕ) (g : Function) : Type 0 where
   pub nodes : function_nodes g ≡ count
   pub body : IsTrue (in_text g.body)
 
-once_holds : {A : Type 0} (P : A → Type 0) (at : Place) (m : Option Meaning) (o : Outcome A) → Holds P o → Holds P (once at m o)
+pub once_holds : {A : Type 0} (P : A → Type 0) (at : Place) (m : Option Meaning) (o : Outcome A) → Holds P o → Holds P (once at m o)
 once_holds P at None o h = h
 once_holds P at (Some m) o h = tt
 

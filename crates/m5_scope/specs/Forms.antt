@@ -1,6 +1,5 @@
 -- The forms of resolved terms: each binder has the next number in the order of the text.
-use Rattle.std.specs.Prelude.{ℕ, ◌+◌, pos}
-use Rattle.m5_tree.specs.Syntax.{Syntax, leaf, unary, binary, ternary}
+use Rattle.std.specs.Prelude.{ℕ, ◌+◌}
 use Rattle.m5_tree.specs.declared.form.UnaryForm as tree_unary
 use Rattle.m5_tree.specs.declared.form.UnaryForm.TheVariants as unary_tree
 use Rattle.m5_tree.specs.declared.form.BinaryForm as tree_binary

@@ -5,3 +5,4 @@ pub mod Forms
 pub mod Resolving
 pub mod Program
 pub mod Tuple
+pub mod Binders

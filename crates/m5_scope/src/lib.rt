@@ -5,10 +5,11 @@ mod declare;
 pub mod end;
 mod expression;
 mod forms;
-pub mod meaning;
+pub mod laws;
+mod meaning;
 mod places;
 pub mod resolve;
 #[cfg(test)]
 mod tests;
-pub mod tuple;
+mod tuple;
 mod written;

@@ -10,7 +10,7 @@ use m5_terms::types::Prim;
 
 /// What a name means: a local or a valid variable, a declared function, each by its number, or a primitive.
 #[derive(Clone, Copy)]
-pub enum Meaning {
+pub(crate) enum Meaning {
     Var(u32),
     Valid(u32),
     Glob(u32),
@@ -19,7 +19,7 @@ pub enum Meaning {
 
 /// The names that a form binds in one of its parts, with what they mean there. Of two equal names the later one counts.
 #[derive(Clone, Copy)]
-pub enum Binding {
+pub(crate) enum Binding {
     None,
     One(usize, Meaning),
     Two(usize, Meaning, usize, Meaning),

@@ -3,11 +3,11 @@
 use crate::end::ScopeEnd;
 use crate::resolve::resolve;
 use m5_lex::Place;
-use m5_raw::node::{Node, NodeBox, Term};
+use m5_raw::node::{Node, Term};
 use m5_terms::listed::Listed;
 use m5_terms::types::World;
 use m5_tree::expr::{Expr, Part, Parts};
-use m5_tree::form::{BinaryForm, LeafForm, TernaryForm, TypeJoin, TypePlain, UnaryForm};
+use m5_tree::form::{BinaryForm, LeafForm, TypeJoin, TypePlain, UnaryForm};
 use m5_tree::names::Names;
 use m5_tree::tree::{Declarations, Extern, Function, Program, Tree};
 use m5_tree::type_expr::TypeExpr;
@@ -30,10 +30,10 @@ fn unit() -> TypeExpr {
 }
 
 /// A function whose `fun` stands in one column and whose name in another.
-fn function(name: usize, parameter: usize, columns: (u8, u8), body: Expr) -> Function {
+fn function(name: usize, parameter: usize, place: u8, name_place: u8, body: Expr) -> Function {
     Function {
-        place: at(columns.0),
-        name_place: at(columns.1),
+        place: at(place),
+        name_place: at(name_place),
         name,
         world: World::Home,
         parameter,
@@ -68,39 +68,33 @@ fn undeclared(alloc: Global, names: Names, body: Expr) -> Tree {
     }
 }
 
-/// A tree whose `main` in column 90 is x, after some declarations.
-fn declared(alloc: Global, case: u8) -> Result<Tree, AllocError> {
+/// The names of the cases below have the numbers 0 and 1.
+fn names_of(alloc: Global) -> Result<Names, AllocError> {
     let mut names = Names::new(alloc);
-    let say = names.number(alloc, b"say")?;
-    let x = names.number(alloc, b"x")?;
+    names.number(alloc, b"say")?;
+    names.number(alloc, b"x")?;
+    Ok(names)
+}
+
+/// The name, the column and the world of each.
+fn externs_of(alloc: Global, cases: &[(usize, u8, World)]) -> Result<Listed<Extern>, AllocError> {
     let mut externs = Listed::make(alloc);
-    let mut functions = Listed::make(alloc);
-    match case {
-        0 => {}
-        1 => externs.push(sayer(alloc, x, 10, World::Home)?)?,
-        2 => externs.push(sayer(alloc, say, 10, World::Server)?)?,
-        3 => {
-            externs.push(sayer(alloc, say, 10, World::Home)?)?;
-            externs.push(sayer(alloc, say, 20, World::Server)?)?;
-        }
-        4 => {
-            externs.push(sayer(alloc, say, 10, World::Home)?)?;
-            functions.push(function(say, x, (30, 31), used(x, 32)))?;
-        }
-        5 => {
-            functions.push(function(x, say, (30, 31), used(say, 32)))?;
-            functions.push(function(x, say, (40, 41), used(say, 42)))?;
-        }
-        6 => {
-            functions.push(function(x, x, (30, 31), used(say, 32)))?;
-            functions.push(function(x, say, (40, 41), used(say, 42)))?;
-        }
-        7 => functions.push(function(say, x, (30, 31), used(say, 32)))?,
-        _ => functions.push(function(x, say, (30, 31), used(x, 32)))?,
+    for (name, column, world) in cases {
+        externs.push(sayer(alloc, *name, *column, *world)?)?;
     }
-    let mut tree = undeclared(alloc, names, used(x, 90));
-    tree.program.declarations = Declarations { externs, functions };
-    Ok(tree)
+    Ok(externs)
+}
+
+/// The name, the parameter, the columns, and the name that the body is, of each.
+fn functions_of(
+    alloc: Global,
+    cases: &[(usize, usize, u8, u8, usize)],
+) -> Result<Listed<Function>, AllocError> {
+    let mut functions = Listed::make(alloc);
+    for (name, parameter, place, name_place, body) in cases {
+        functions.push(function(*name, *parameter, *place, *name_place, used(*body, 99)))?;
+    }
+    Ok(functions)
 }
 
 fn told(alloc: Global, tree: &Tree) -> Result<String, AllocError> {
@@ -115,110 +109,61 @@ fn told(alloc: Global, tree: &Tree) -> Result<String, AllocError> {
     format!(in alloc; "{kind} {}:{}", place.line, place.column)
 }
 
+/// A tree whose `main` in column 90 is x.
+fn declared(
+    alloc: Global,
+    externs: &[(usize, u8, World)],
+    functions: &[(usize, usize, u8, u8, usize)],
+) -> Result<Tree, AllocError> {
+    let mut tree = undeclared(alloc, names_of(alloc)?, used(1, 90));
+    tree.program.declarations.externs = externs_of(alloc, externs)?;
+    tree.program.declarations.functions = functions_of(alloc, functions)?;
+    Ok(tree)
+}
+
 #[test]
 fn the_earliest_fault_is_told(rt: HostRuntime) -> Result<(), Fail> {
     let alloc = rt.alloc();
-    let cases: [(u8, &str); 9] = [
-        (0, "unbound 1:90"),
-        (1, "bad extern 1:10"),
-        (2, "bad extern 1:10"),
-        (3, "repeated 1:20"),
-        (4, "repeated 1:31"),
-        (5, "repeated 1:41"),
-        (6, "unbound 1:32"),
-        (7, "unbound 1:90"),
-        (8, "resolved"),
+    let cases: [(
+        &[(usize, u8, World)],
+        &[(usize, usize, u8, u8, usize)],
+        &str,
+    ); 9] = [
+        (&[], &[], "unbound 1:90"),
+        (&[(1, 10, World::Home)], &[], "bad extern 1:10"),
+        (&[(0, 10, World::Server)], &[], "bad extern 1:10"),
+        (
+            &[(0, 10, World::Home), (0, 20, World::Server)],
+            &[],
+            "repeated 1:20",
+        ),
+        (
+            &[(0, 10, World::Home)],
+            &[(0, 1, 30, 31, 1)],
+            "repeated 1:31",
+        ),
+        (
+            &[],
+            &[(1, 0, 30, 31, 0), (1, 0, 40, 41, 0)],
+            "repeated 1:41",
+        ),
+        (&[], &[(1, 1, 30, 31, 0), (1, 0, 40, 41, 0)], "unbound 1:99"),
+        (&[], &[(0, 1, 30, 31, 0)], "unbound 1:90"),
+        (&[], &[(1, 0, 30, 31, 1)], "resolved"),
     ];
-    for (case, expected) in cases {
-        let tree = declared(alloc, case)?;
-        assert_eq!(rt; told(alloc, &tree)?.as_str(), expected, "case {case}");
+    for (externs, functions, expected) in cases {
+        let tree = declared(alloc, externs, functions)?;
+        assert_eq!(rt; told(alloc, &tree)?.as_str(), expected);
     }
     Ok(())
 }
 
-fn say_two(
-    first: &NodeBox,
-    between: &str,
-    second: &NodeBox,
-    out: &mut String,
-) -> Result<(), AllocError> {
-    say(first.get(), out)?;
-    out.push_str(between)?;
-    say(second.get(), out)
-}
-
-/// Adds what a term's names are, the forms that the test below has, and `?` for another.
-fn say(node: &Node, out: &mut String) -> Result<(), AllocError> {
-    match &node.term {
-        Term::Var(x) => write!(out, "x{x}"),
-        Term::Valid(x) => write!(out, "u{x}"),
-        Term::Glob(x) => write!(out, "f{x}"),
-        Term::Rec {
-            var,
-            other,
-            first,
-            ..
-        } => {
-            write!(out, "rec {var} {other}.")?;
-            say(first.get(), out)
-        }
-        Term::Pair { first, second } => say_two(first, ", ", second, out),
-        Term::Put { var, first, second } => {
-            write!(out, "put {var} = ")?;
-            say_two(first, " in ", second, out)
-        }
-        Term::Val { var, first, second } => {
-            write!(out, "val {var} = ")?;
-            say_two(first, " in ", second, out)
-        }
-        Term::CaseSum {
-            first,
-            var,
-            second,
-            other,
-            third,
-        } => {
-            say(first.get(), out)?;
-            write!(out, " {var}.")?;
-            say(second.get(), out)?;
-            write!(out, " {other}.")?;
-            say(third.get(), out)
-        }
-        Term::CaseList {
-            first,
-            second,
-            var,
-            other,
-            third,
-        } => {
-            say_two(first, " | ", second, out)?;
-            write!(out, " {var} {other}.")?;
-            say(third.get(), out)
-        }
-        _ => out.push_str("?"),
-    }
-}
-
-/// `fun f g = f fun g g = g`, and a `main` with each kind of binder, some of one name.
+/// `fun x x = x`, and a `main` of the form `rec x (x) => put ~x = x in x`.
 fn binders(alloc: Global) -> Result<Tree, AllocError> {
-    let mut names = Names::new(alloc);
-    let f = names.number(alloc, b"f")?;
-    let g = names.number(alloc, b"g")?;
-    let x = names.number(alloc, b"x")?;
-    let mut functions = Listed::make(alloc);
-    functions.push(function(f, g, (1, 2), used(f, 3)))?;
-    functions.push(function(g, g, (4, 5), used(g, 6)))?;
-    let value = Expr::binary(alloc, at(1), BinaryForm::Val(x), used(x, 1), used(x, 1))?;
-    let cons = Expr::binary(alloc, at(1), BinaryForm::Pair, used(f, 1), value)?;
-    let list = TernaryForm::CaseList(f, f);
-    let right = Expr::ternary(alloc, at(1), list, used(g, 1), used(x, 1), cons)?;
-    let sum = TernaryForm::CaseSum(f, g);
-    let case = Expr::ternary(alloc, at(1), sum, used(x, 1), used(f, 1), right)?;
-    let put = Expr::binary(alloc, at(1), BinaryForm::Put(x), used(g, 1), case)?;
-    let pair = Expr::binary(alloc, at(1), BinaryForm::Pair, used(f, 1), put)?;
-    let body = Expr::unary(alloc, at(1), UnaryForm::Rec(f, f, unit(), unit()), pair)?;
-    let mut tree = undeclared(alloc, names, body);
-    tree.program.declarations.functions = functions;
+    let put = Expr::binary(alloc, at(2), BinaryForm::Put(1), used(1, 3), used(1, 4))?;
+    let body = Expr::unary(alloc, at(1), UnaryForm::Rec(1, 1, unit(), unit()), put)?;
+    let mut tree = undeclared(alloc, names_of(alloc)?, body);
+    tree.program.declarations.functions = functions_of(alloc, &[(1, 1, 30, 31, 1)])?;
     Ok(tree)
 }
 
@@ -229,18 +174,49 @@ fn the_nearest_binder_is_meant(rt: HostRuntime) -> Result<(), Fail> {
     let Ok(raw) = resolve(alloc, &tree) else {
         return Err("refused".into());
     };
-    let mut text = String::new(alloc);
-    for function in raw.functions() {
-        write!(text, "fun {}.", function.parameter)?;
-        say(&function.body, &mut text)?;
-        text.push_str("; ")?;
-    }
-    say(raw.main(), &mut text)?;
-    assert_eq!(rt;
-        text.as_str(),
-        "fun 0.f0; fun 1.x1; rec 2 3.x3, put 4 = f1 in u4 5.x5 6.x6 | u4 7 8.x8, val 9 = u4 in x9"
-    );
+    let Some(function) = raw.functions().first() else {
+        return Err("no function".into());
+    };
+    assert_eq!(rt; function.parameter, 0);
+    assert_eq!(rt; variable(&function.body), Some(0));
+    assert!(rt; is_expected(raw.main()));
     Ok(())
+}
+
+/// The number of a variable.
+fn variable(node: &Node) -> Option<u32> {
+    match &node.term {
+        Term::Var(number) | Term::Valid(number) => Some(*number),
+        _ => None,
+    }
+}
+
+/// Whether it is `rec 1 (2) => put ~3 = 2 in 3`.
+fn is_expected(main: &Node) -> bool {
+    let Term::Rec {
+        var: 1,
+        other: 2,
+        first,
+        ..
+    } = &main.term
+    else {
+        return false;
+    };
+    is_expected_put(first.get())
+}
+
+fn is_expected_put(node: &Node) -> bool {
+    let Term::Put {
+        var: 3,
+        first,
+        second,
+    } = &node.term
+    else {
+        return false;
+    };
+    let value = first.get();
+    let rest = second.get();
+    matches!(&value.term, Term::Var(2)) && matches!(&rest.term, Term::Valid(3))
 }
 
 /// So many units in one tuple, each with its place.
@@ -262,10 +238,7 @@ fn nodes_are_counted_first(rt: HostRuntime) -> Result<(), Fail> {
     let full = tuple(alloc, 8000)?;
     assert_eq!(rt; told(alloc, &full)?.as_str(), "resolved");
     let mut past = tuple(alloc, 8000)?;
-    let x = past.names.number(alloc, b"x")?;
-    let mut externs = Listed::make(alloc);
-    externs.push(sayer(alloc, x, 10, World::Home)?)?;
-    past.program.declarations.externs = externs;
+    past.program.declarations.externs = externs_of(alloc, &[(0, 10, World::Home)])?;
     assert_eq!(rt; told(alloc, &past)?.as_str(), "too many 2:7998");
     Ok(())
 }

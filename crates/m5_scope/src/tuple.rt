@@ -10,9 +10,9 @@ use std::alloc::{AllocError, Global};
 
 /// A resolved part of a tuple that is not its last one, with the place of the pair that it begins.
 #[derive(Drop)]
-pub struct Head {
-    pub place: Place,
-    pub node: NodeBox,
+pub(crate) struct Head {
+    pub(crate) place: Place,
+    pub(crate) node: NodeBox,
 }
 
 /// Adds a part before the last one.

@@ -1,0 +1,14 @@
+pub mod Worlds
+pub mod Growth
+pub mod Parts
+pub mod TextBytes
+pub mod Canonical
+pub mod Reductions
+pub mod Replies
+pub mod Steps
+pub mod Boards
+pub mod SiteTexts
+pub mod Networks
+pub mod AllTexts
+pub mod Counts
+pub mod Progress

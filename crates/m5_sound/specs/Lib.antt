@@ -1,0 +1,6 @@
+pub mod Settings
+pub mod Threads
+pub mod Sites
+pub mod Networks
+pub mod Texts
+pub mod Laws

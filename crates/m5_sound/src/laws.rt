@@ -1,0 +1,48 @@
+//! The laws of typed runs, each on a function that does nothing.
+
+ghost use Rattle.m5_sound.specs.Laws.{TypedSitesGoOn, OpeningIsTyped, RunsKeepTypes, AllStaysTyped, EachThreadGoesOn, NoSiteGoesWrong, SomethingCanHappen, PrimitivesAreAtTheirWorlds, TextsStayTexts};
+
+/// A typed site's next step or ask is typed.
+pub fn typed_sites_go_on_holds()
+    ensures { TypedSitesGoOn }
+{}
+
+/// A program's opening is typed.
+pub fn opening_is_typed_holds()
+    ensures { OpeningIsTyped }
+{}
+
+/// A run from a typed network leads to a typed one.
+pub fn runs_keep_types_holds()
+    ensures { RunsKeepTypes }
+{}
+
+/// Along each run of a program all threads, cells, handlers and link items are typed.
+pub fn all_stays_typed_holds()
+    ensures { AllStaysTyped }
+{}
+
+/// Along each run of a program each thread has a local step or an ask.
+pub fn each_thread_goes_on_holds()
+    ensures { EachThreadGoesOn }
+{}
+
+/// Along each run of a program no site is wrong.
+pub fn no_site_goes_wrong_holds()
+    ensures { NoSiteGoesWrong }
+{}
+
+/// After each run of a program each site is stopped, at rest, or can make a deed.
+pub fn something_can_happen_holds()
+    ensures { SomethingCanHappen }
+{}
+
+/// Along each run of a program each primitive is called at its world.
+pub fn primitives_are_at_their_worlds_holds()
+    ensures { PrimitivesAreAtTheirWorlds }
+{}
+
+/// Along each run of a program texts have only the bytes of texts.
+pub fn texts_stay_texts_holds()
+    ensures { TextsStayTexts }
+{}
