@@ -1,0 +1,78 @@
+-- How a program text is refused: the first fault of bytes and numbers, else of the grammar, else of names, else of types.
+use Rattle.std.specs.Prelude.{◌≡◌, ℕ, List, Ok, Err}
+use Rattle.m5_lex.specs.declared.place.Place.{Place}
+use Rattle.m5_lex.specs.Lexed.{lexed, bad_byte, bad_number}
+use Rattle.m5_lex.specs.Tokens.{Listing}
+use Rattle.m5_tree.specs.declared.tree.Tree.{Tree}
+use Rattle.m5_parse.specs.Answers.{IsSyntaxFault, IsDeepFault}
+use Rattle.m5_scope.specs.Resolving.{fault}
+use Rattle.m5_scope.specs.Program.{tree_resolved}
+use Rattle.m5_scope.specs.declared.end.ScopeEnd.{ScopeEnd}
+use Rattle.m5_scope.specs.declared.end.ScopeEnd.TheVariants as scope
+use Rattle.m5_raw.specs.RawTerm.{RawTerm}
+use Rattle.m5_elaborate.specs.Outcome as typing
+use Rattle.m5_elaborate.specs.Checked.{elaborated}
+use Rattle.m5_elaborate.specs.declared.end.TypeEnd.{TypeEnd}
+use Rattle.m5_elaborate.specs.declared.end.TypeEnd.TheVariants as types
+use Rattle.m5_front.specs.Reading.{HasTree, IsRead}
+use Rattle.m5_front.specs.declared.refusal.Fault.{Fault}
+use Rattle.m5_front.specs.declared.refusal.Fault.TheVariants.{Byte, Number, Syntax, Deep, TooMany, Unbound, Repeated, BadExtern, Types}
+use Rattle.m5_front.specs.declared.refusal.FrontEnd.{FrontEnd}
+use Rattle.m5_front.specs.declared.refusal.FrontEnd.TheVariants.{Memory, Refused}
+
+-- the tokens are no program: the first of them that no program has there, or the text's end
+pub record HasSyntaxFault (text : List ℕ) (at : Place) : Type 0 where
+  pub listing : Listing
+  pub tokens : lexed text ≡ Ok listing
+  pub fault : IsSyntaxFault listing.tokens listing.ending at
+
+-- the first token that is too deep
+pub record HasDeepFault (text : List ℕ) (at : Place) : Type 0 where
+  pub listing : Listing
+  pub tokens : lexed text ≡ Ok listing
+  pub fault : IsDeepFault listing.tokens at
+
+-- the names of the text's tree have this first fault
+pub record HasScopeFault (text : List ℕ) (end : ScopeEnd) : Type 0 where
+  pub tree : Tree
+  pub read : HasTree text tree
+  pub fault : tree_resolved tree.names tree.program ≡ fault end
+
+-- the types of the text's resolved program have this first fault
+pub record HasTypeFault (text : List ℕ) (end : TypeEnd) : Type 0 where
+  pub tree : Tree
+  pub raw : RawTerm
+  pub read : IsRead text tree raw
+  pub fault : elaborated raw ≡ typing.fault end
+
+abbrev pub HasFault : List ℕ → Fault → Place → Type 0
+HasFault text Byte at = lexed text ≡ Err (bad_byte at)
+HasFault text Number at = lexed text ≡ Err (bad_number at)
+HasFault text Syntax at = HasSyntaxFault text at
+HasFault text Deep at = HasDeepFault text at
+HasFault text TooMany at = HasScopeFault text (scope.TooMany at)
+HasFault text Unbound at = HasScopeFault text (scope.Unbound at)
+HasFault text Repeated at = HasScopeFault text (scope.Repeated at)
+HasFault text BadExtern at = HasScopeFault text (scope.BadExtern at)
+HasFault text (Types kind) at = HasTypeFault text (types.Refused kind at)
+
+-- a refusal has its cause; want of memory may come at any time
+abbrev pub HasCause : List ℕ → FrontEnd → Type 0
+HasCause text Memory = Unit {0}
+HasCause text (Refused r) = HasFault text r.fault r.place
+
+abbrev pub refused : Fault → Place → FrontEnd
+refused kind at = Refused (record { fault = kind; place = at })
+
+-- how a fault of names is answered
+abbrev pub refusal_of : ScopeEnd → FrontEnd
+refusal_of scope.Memory = Memory
+refusal_of (scope.TooMany at) = refused TooMany at
+refusal_of (scope.Unbound at) = refused Unbound at
+refusal_of (scope.Repeated at) = refused Repeated at
+refusal_of (scope.BadExtern at) = refused BadExtern at
+
+-- how a fault of types is answered
+abbrev pub type_refusal_of : TypeEnd → FrontEnd
+type_refusal_of types.Memory = Memory
+type_refusal_of (types.Refused kind at) = refused (Types kind) at
