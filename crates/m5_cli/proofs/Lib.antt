@@ -1,6 +1,1 @@
-mod Claims
-mod Closing
 mod Finishing
-mod Speaking
-mod Steps
-mod Texts

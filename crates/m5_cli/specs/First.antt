@@ -1,20 +1,35 @@
--- The program and the history of a term of the first form.
-use Rattle.std.specs.Prelude.{List, [], ℕ, map}
-use Rattle.m5_terms.specs.Expression.{Expression}
-use Rattle.m5_terms.specs.declared.types.World.TheVariants.{Home}
-use Rattle.m5_terms.specs.declared.ask.Entry.{Entry}
-use Rattle.m5_terms.specs.declared.ask.Act.TheVariants as act
-use Rattle.m5_terms.specs.declared.ask.End.TheVariants as end
+-- The programs and scripts that the first form takes, and the trace of their run.
+use Rattle.std.specs.Prelude.{◌≡◌, ℕ, true, List, Option, Some, None}
 use Rattle.m5_terms.specs.declared.ask.History.{History}
-use Rattle.m5_meaning.specs.Site.{Program}
+use Rattle.m5_terms.specs.declared.ask.End.TheVariants as end
+use Rattle.m5_tree.specs.declared.tree.Tree.{Tree}
+use Rattle.m5_typing.specs.Program.{ProgramTerm}
+use Rattle.m5_script.specs.Alone.{one_session}
+use Rattle.m5_script.specs.Scenario.{silent}
+use Rattle.m5_script.specs.Trace.{trace_of}
+use Rattle.m5_network.specs.Claim.{IsRunOf}
+use Rattle.m5_first.specs.Form.{first_form}
+use Rattle.m5_first.specs.Walk.{SaysTexts}
 
--- a term alone, without declared functions
-abbrev pub program_of : Expression → Program
-program_of e = record { functions = []; main = e }
+-- the program says texts alone, and the script has no line but those that are skipped and at most one `sessions 1`
+pub record IsFirst (script : List ℕ) (tree : Tree) (program : ProgramTerm) : Type 0 where
+  pub form : first_form tree.names tree.program ≡ true
+  pub texts : SaysTexts program
+  pub alone : one_session script ≡ true
 
-abbrev pub said_entry : List ℕ → Entry
-said_entry t = record { session = 1; world = Home; act = act.Say t }
+-- the text is the trace of a run of the program in one session, which ends at rest
+pub record IsRunTrace (program : ProgramTerm) (text : List ℕ) : Type 0 where
+  pub history : History
+  pub run : IsRunOf program silent history
+  pub rests : history.end ≡ end.Rest
+  pub trace : text ≡ trace_of history
 
--- the home of the one session says the texts, and the run rests
-abbrev pub history_of : List (List ℕ) → History
-history_of ls = record { entries = map said_entry ls; end = end.Rest }
+-- a trace exactly where the program says texts alone
+abbrev pub IsTrace : ProgramTerm → Option (List ℕ) → Type 0
+IsTrace program (Some text) = SaysTexts program × IsRunTrace program text
+IsTrace program None = SaysTexts program → ⊥
+
+-- a trace exactly where program and script are of the first form
+abbrev pub IsFirstTrace : List ℕ → Tree → ProgramTerm → Option (List ℕ) → Type 0
+IsFirstTrace script tree program (Some text) = IsFirst script tree program × IsRunTrace program text
+IsFirstTrace script tree program None = IsFirst script tree program → ⊥

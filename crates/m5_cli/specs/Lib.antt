@@ -1,7 +1,6 @@
 pub mod Due
 pub mod First
-pub mod FirstScript
 pub mod Input
+pub mod Refusal
 pub mod Status
-pub mod Walk
 pub mod Words

@@ -1,11 +1,13 @@
 //! The jobs of the program: from the words and the bytes read to the bytes written and the status.
 #![tactic(auto)]
 
+mod due;
+mod first;
 mod input;
 mod jobs;
+mod refusal;
 mod status;
 mod top;
-mod walk;
 mod words;
 
 pub use jobs::plain;

@@ -14,6 +14,10 @@ pub enum Status {
     ReadFault,
     /// The sink failed.
     WriteFault,
+    /// The text has no tokens or no tree, or is nested too deeply.
+    BadText,
+    /// The names of the program have no meaning.
+    BadTypes,
     /// Memory ran out.
     NoMemory,
     /// The input has more than 262,144 bytes.
@@ -32,6 +36,8 @@ impl Status {
             Status::Usage => 1,
             Status::ReadFault => 2,
             Status::WriteFault => 3,
+            Status::BadText => 4,
+            Status::BadTypes => 5,
             Status::NoMemory => 7,
             Status::TooLong => 8,
             Status::Unbuilt => 11,

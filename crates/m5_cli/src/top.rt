@@ -31,13 +31,13 @@ pub fn ml5<R: Threads + Wait + Sync, S: Source, K: Sink, G: Gate + Sync>(
     ensures usage { job_of words.now ≡ None → Finishes (K.held sink.old) (K.held sink.new) Status.Usage usage_line result }
     ensures usage_only { result ≡ Status.Usage → job_of words.now ≡ None }
     ensures leaves { (job : Job) → job_of words.now ≡ Some job
-        → IfSome (S.left source.old) (λ input. Leaves (K.held sink.old) (K.held sink.new) input result) }
+        → IfSome (S.left source.old) (λ input. Leaves job (K.held sink.old) (K.held sink.new) input result) }
     ensures read_fault { result ≡ Status.ReadFault → Rose (S.faults source.old) (S.faults source.new) }
     ensures nothing { result ≡ Status.ReadFault → Keeps (K.held sink.old) (K.held sink.new) }
     ensures write_fault { result ≡ Status.WriteFault → Rose (K.faults sink.old) (K.faults sink.new) }
 {
     match read_words(words) {
         Some(job) => plain(alloc, job, source, sink),
-        None => finish(sink, Status::Usage, b"usage: ml5 run\n"),
+        None => finish(sink, Status::Usage, b"usage: ml5 check, run\n"),
     }
 }

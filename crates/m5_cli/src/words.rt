@@ -9,6 +9,8 @@ use std::marker::Model;
 /// What the program is to do.
 #[derive(Clone, Copy, Debug, PartialEq, Eq)]
 pub enum Job {
+    /// Say whether a program is accepted.
+    Check,
     /// Run a program by a script, and write the trace.
     Run,
 }
@@ -55,6 +57,7 @@ pub fn read_words(words: &Words) -> Option<Job>
     ensures { result ≡ job_of words.now }
 {
     match words.held.as_slice() {
+        [word] if word.as_str() == "check" => Some(Job::Check),
         [word] if word.as_str() == "run" => Some(Job::Run),
         _ => None,
     }

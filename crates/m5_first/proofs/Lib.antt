@@ -1,8 +1,6 @@
-mod FirstCode
-mod FirstComplete
-mod FirstOptions
-mod FirstPrograms
-pub mod FirstSays
-mod FirstSound
-mod FirstSpelling
-mod FirstWords
+mod Closing
+mod Steps
+mod Texts
+mod Speaking
+mod Claims
+mod Tuples

@@ -1,8 +1,4 @@
-pub mod FirstGrammar
-pub mod FirstLevel
-pub mod FirstMarks
-pub mod FirstReader
-pub mod FirstReading
-pub mod FirstSays
-pub mod FirstTerm
-pub mod FirstTree
+pub mod Says
+pub mod Claimed
+pub mod Walk
+pub mod Form

@@ -1,4 +1,5 @@
-//! The first form of programs: a term exactly where a text is of the form.
+//! The first form of programs, whose `main` says texts one after the other, and their runs.
 #![tactic(auto)]
 
-pub mod first;
+pub mod form;
+pub mod walk;

@@ -1,0 +1,92 @@
+//! What is due for an input that was read whole: a status and the text that is written with it.
+
+ghost use Rattle.std.specs.Prelude.{◌≡◌, ◌≤◌, length, IfOk};
+ghost use Rattle.m5_raw.specs.RawTerm.{RawTerm};
+ghost use Rattle.m5_tree.specs.declared.tree.Tree.{Tree as TreeOf};
+ghost use Rattle.m5_typing.specs.Program.{ProgramTerm};
+ghost use Rattle.m5_front.specs.Refusal.{HasFault};
+ghost use Rattle.m5_cli.specs.Due.{Due, Accepts, input_limit};
+ghost use Rattle.m5_cli.specs.Input.{parts_of};
+
+use crate::first::first_trace;
+use crate::input::split;
+use crate::refusal::{fault_status, refusal_text};
+use crate::status::Status;
+use crate::words::Job;
+use m5_front::program::{Accepted, read_program};
+use m5_front::refusal::{FrontEnd, Refusal};
+use m5_terms::text::Text;
+use std::alloc::{AllocError, Global};
+
+/// A status, and the text that is written with it.
+#[derive(Drop)]
+pub struct Answer {
+    pub status: Status,
+    pub text: Text,
+}
+
+/// What is due for a refused program text.
+fn refused(alloc: Global, job: Job, input: &[u8], refusal: Refusal) -> Result<Answer, AllocError>
+    requires short { length input.now ≤ input_limit }
+    requires cause { HasFault (parts_of input.now).program refusal.fault refusal.place }
+    requires not_accepted { (tree : TreeOf) (raw : RawTerm) (program : ProgramTerm) → Accepts input.now tree raw program → ⊥ }
+    ensures { IfOk result (λ answer. Due job input.now answer.status answer.text) }
+{
+    Ok(Answer {
+        status: fault_status(refusal.fault),
+        text: refusal_text(alloc, refusal)?,
+    })
+}
+
+/// What `check` owes for an accepted program.
+fn checked(alloc: Global, input: &[u8], accepted: &Accepted) -> Result<Answer, AllocError>
+    requires short { length input.now ≤ input_limit }
+    requires accepted { Accepts input.now accepted.now.tree accepted.now.raw accepted.now.program }
+    ensures { IfOk result (λ answer. Due Job.Check input.now answer.status answer.text) }
+{
+    Ok(Answer {
+        status: Status::Rest,
+        text: Text::of(alloc, b"accepted\n")?,
+    })
+}
+
+/// What `run` owes for an accepted program and a script.
+fn run(
+    alloc: Global,
+    input: &[u8],
+    accepted: &Accepted,
+    script: &[u8],
+) -> Result<Answer, AllocError>
+    requires short { length input.now ≤ input_limit }
+    requires accepted { Accepts input.now accepted.now.tree accepted.now.raw accepted.now.program }
+    requires script { script.now ≡ (parts_of input.now).script }
+    ensures { IfOk result (λ answer. Due Job.Run input.now answer.status answer.text) }
+{
+    match first_trace(alloc, accepted, script)? {
+        Some(text) => Ok(Answer {
+            status: Status::Rest,
+            text,
+        }),
+        None => Ok(Answer {
+            status: Status::Unbuilt,
+            text: Text::of(alloc, b"refused unbuilt\n")?,
+        }),
+    }
+}
+
+/// What a job owes for an input.
+pub(crate) fn due(alloc: Global, job: Job, input: &[u8]) -> Result<Answer, AllocError>
+    requires { length input.now ≤ input_limit }
+    ensures { IfOk result (λ answer. Due job input.now answer.status answer.text) }
+{
+    let (text, script) = split(input);
+    let accepted = match read_program(alloc, text) {
+        Ok(accepted) => accepted,
+        Err(FrontEnd::Refused(refusal)) => return refused(alloc, job, input, refusal),
+        Err(FrontEnd::Memory) => return Err(AllocError),
+    };
+    match job {
+        Job::Check => checked(alloc, input, &accepted),
+        Job::Run => run(alloc, input, &accepted, script),
+    }
+}

@@ -1,0 +1,90 @@
+//! The lines and statuses of refused program texts.
+
+ghost use Rattle.std.specs.Prelude.{◌≡◌, ◌++◌, IfOk, OnOk};
+ghost use Rattle.std.specs.Fmt.{decimal};
+ghost use Rattle.m5_cli.specs.Refusal.{kind_word, fault_word, place_words, refusal_line, status_of};
+
+use crate::status::Status;
+use m5_elaborate::end::Kind;
+use m5_front::refusal::{Fault, Refusal};
+use m5_lex::Place;
+use m5_terms::text::Text;
+use std::alloc::{AllocError, Global};
+
+/// Adds the word of a check that failed.
+fn put_kind(out: &mut Vec<u8>, kind: Kind) -> Result<(), AllocError>
+    ensures { OnOk result (out.new.items ≡ out.old.items ++ kind_word kind) }
+{
+    match kind {
+        Kind::WrongWorld => out.extend_from_slice(b"WrongWorld"),
+        Kind::NotMobile => out.extend_from_slice(b"NotMobile"),
+        Kind::Mismatch => out.extend_from_slice(b"Mismatch"),
+        Kind::NotFunction => out.extend_from_slice(b"NotFunction"),
+        Kind::NotPair => out.extend_from_slice(b"NotPair"),
+        Kind::NotSum => out.extend_from_slice(b"NotSum"),
+        Kind::NotList => out.extend_from_slice(b"NotList"),
+        Kind::NotCell => out.extend_from_slice(b"NotCell"),
+        Kind::NotAt => out.extend_from_slice(b"NotAt"),
+        Kind::NotSham => out.extend_from_slice(b"NotSham"),
+        Kind::NotGeneric => out.extend_from_slice(b"NotGeneric"),
+        Kind::TooLarge => out.extend_from_slice(b"TooLarge"),
+    }
+}
+
+/// Adds the word of a fault.
+fn put_fault(out: &mut Vec<u8>, fault: Fault) -> Result<(), AllocError>
+    ensures { OnOk result (out.new.items ≡ out.old.items ++ fault_word fault) }
+{
+    match fault {
+        Fault::Byte => out.extend_from_slice(b"byte"),
+        Fault::Number => out.extend_from_slice(b"number"),
+        Fault::Syntax => out.extend_from_slice(b"syntax"),
+        Fault::Deep => out.extend_from_slice(b"deep"),
+        Fault::TooMany => out.extend_from_slice(b"TooMany"),
+        Fault::Unbound => out.extend_from_slice(b"Unbound"),
+        Fault::Repeated => out.extend_from_slice(b"Repeated"),
+        Fault::BadExtern => out.extend_from_slice(b"BadExtern"),
+        Fault::Types(kind) => put_kind(out, kind),
+    }
+}
+
+/// Adds a number in decimal.
+fn put_number(alloc: Global, out: &mut Vec<u8>, number: u32) -> Result<(), AllocError>
+    ensures { OnOk result (out.new.items ≡ out.old.items ++ decimal number) }
+{
+    let digits = number.to_string(alloc)?;
+    out.extend_from_slice(digits.as_bytes())
+}
+
+/// Adds line and column.
+fn put_place(alloc: Global, out: &mut Vec<u8>, place: Place) -> Result<(), AllocError>
+    ensures { OnOk result (out.new.items ≡ out.old.items ++ place_words place) }
+{
+    put_number(alloc, out, place.line)?;
+    out.push(b':')?;
+    put_number(alloc, out, place.column)
+}
+
+/// The line of a refusal: its fault and its place.
+pub(crate) fn refusal_text(alloc: Global, refusal: Refusal) -> Result<Text, AllocError>
+    ensures { IfOk result (λ text. text ≡ refusal_line refusal) }
+{
+    let mut out = Vec::new(alloc);
+    out.extend_from_slice(b"refused ")?;
+    put_fault(&mut out, refusal.fault)?;
+    out.push(b' ')?;
+    put_place(alloc, &mut out, refusal.place)?;
+    out.push(b'\n')?;
+    Text::of(alloc, out.as_slice())
+}
+
+/// The status of a fault.
+pub(crate) fn fault_status(fault: Fault) -> Status
+    ensures { result ≡ status_of fault }
+{
+    match fault {
+        Fault::Byte | Fault::Number | Fault::Syntax | Fault::Deep => Status::BadText,
+        Fault::TooMany | Fault::Unbound | Fault::Repeated | Fault::BadExtern | Fault::Types(_) =>
+            Status::BadTypes,
+    }
+}
