@@ -20,9 +20,10 @@ main = (* one (* inner *) *) let val a = fn (x : int) => rec h (y : int) : int =
  in case from home get f 1 of inl m => case nil[int] of nil => () | n :: o => a n o end | inr p => (say p) end end";
 
 /// The refusal of a text, or none where it is read or memory is wanting.
-fn refusal(alloc: Global, text: &[u8]) -> Option<Refusal>
-    requires { length text.now < 4294967295 }
-{
+fn refusal(alloc: Global, text: &[u8]) -> Option<Refusal> {
+    if text.len() > 262_144 {
+        return None;
+    }
     match read_program(alloc, text) {
         Ok(_) => None,
         Err(FrontEnd::Memory) => None,

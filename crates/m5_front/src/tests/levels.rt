@@ -40,7 +40,7 @@ fn is_deep(alloc: Global, nest: &Nest, count: usize) -> Result<bool, AllocError>
     }
 }
 
-fn nest(
+fn make_nest(
     before: &'static [u8],
     piece: &'static [u8],
     middle: &'static [u8],
@@ -62,21 +62,21 @@ fn nest(
 fn level_400_and_401(rt: HostRuntime) -> Result<(), Fail> {
     let alloc = rt.alloc();
     let nests = [
-        nest(b"main = ", b"(", b"()", b")", b"", 399),
-        nest(b"main = 1", b"+1", b"", b"", b"", 399),
-        nest(b"main = ()", b"::()", b"", b"", b"", 399),
-        nest(b"main = ()", b"()", b"", b"", b"", 400),
-        nest(b"main = let ", b"do () ", b"in () end", b"", b"", 398),
-        nest(b"main = ", b"let do () in ", b"()", b" end", b"", 199),
-        nest(b"main = nil[int", b" list", b"]", b"", b"", 399),
-        nest(b"main = nil[int", b" at home", b"]", b"", b"", 399),
-        nest(b"main = nil[", b"sham ", b"int]", b"", b"", 398),
-        nest(b"main = nil[", b"(", b"int", b")", b"]", 398),
-        nest(b"main = nil[int", b"*int", b"]", b"", b"", 398),
-        nest(b"main = nil[int", b"+int", b"]", b"", b"", 398),
-        nest(b"main = nil[int", b"->int", b"]", b"", b"", 199),
-        nest(b"main = ", b"fn (x : int) => ", b"()", b"", b"", 399),
-        nest(
+        make_nest(b"main = ", b"(", b"()", b")", b"", 399),
+        make_nest(b"main = 1", b"+1", b"", b"", b"", 399),
+        make_nest(b"main = ()", b"::()", b"", b"", b"", 399),
+        make_nest(b"main = ()", b"()", b"", b"", b"", 400),
+        make_nest(b"main = let ", b"do () ", b"in () end", b"", b"", 398),
+        make_nest(b"main = ", b"let do () in ", b"()", b" end", b"", 199),
+        make_nest(b"main = nil[int", b" list", b"]", b"", b"", 399),
+        make_nest(b"main = nil[int", b" at home", b"]", b"", b"", 399),
+        make_nest(b"main = nil[", b"sham ", b"int]", b"", b"", 398),
+        make_nest(b"main = nil[", b"(", b"int", b")", b"]", 398),
+        make_nest(b"main = nil[int", b"*int", b"]", b"", b"", 398),
+        make_nest(b"main = nil[int", b"+int", b"]", b"", b"", 398),
+        make_nest(b"main = nil[int", b"->int", b"]", b"", b"", 199),
+        make_nest(b"main = ", b"fn (x : int) => ", b"()", b"", b"", 399),
+        make_nest(
             b"main = ",
             b"rec f (x : int) : int => ",
             b"()",
@@ -84,10 +84,10 @@ fn level_400_and_401(rt: HostRuntime) -> Result<(), Fail> {
             b"",
             399,
         ),
-        nest(b"main = ", b"spawn ", b"()", b"", b"", 399),
-        nest(b"main = ", b"from home get ", b"()", b"", b"", 399),
-        nest(b"main = ", b"if true then () else ", b"()", b"", b"", 399),
-        nest(
+        make_nest(b"main = ", b"spawn ", b"()", b"", b"", 399),
+        make_nest(b"main = ", b"from home get ", b"()", b"", b"", 399),
+        make_nest(b"main = ", b"if true then () else ", b"()", b"", b"", 399),
+        make_nest(
             b"main = ",
             b"case () of inl x => () | inr y => ",
             b"()",
@@ -98,7 +98,7 @@ fn level_400_and_401(rt: HostRuntime) -> Result<(), Fail> {
     ];
     for nest in nests.iter() {
         assert_eq!(rt; is_deep(alloc, nest, nest.most)?, false);
-        assert_eq!(rt; is_deep(alloc, nest, nest.most + 1)?, true);
+        assert_eq!(rt; is_deep(alloc, nest, nest.most.saturating_add(1))?, true);
     }
     Ok(())
 }

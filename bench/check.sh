@@ -1,0 +1,79 @@
+#!/usr/bin/env bash
+# Times `ml5 check` on programs of about 4,000, 8,000 and nearly 16,000 nodes of several shapes: nodes, bytes, seconds,
+# peak memory in KiB, and the growth of the seconds against the program of half the size. Time is to grow at most as the
+# nodes times the size of their types, and the largest is to take under two seconds and under 512 MiB.
+set -u
+cd "$(dirname "$0")/.." || exit 1
+program=crates/ml5/out/ml5
+[ -x "$program" ] || { echo "bench: $program is not built: run rt ci first"; exit 1; }
+folder=$(mktemp -d)
+trap 'rm -rf "$folder"' EXIT
+
+# A program of a shape and of about so many nodes.
+input() {
+  awk -v shape="$1" -v want="$2" 'BEGIN {
+    if (shape == "one let") {
+      # 390 declarations, each of a tuple that has two nodes a part.
+      parts = int(want / 390 / 2)
+      print "main = let"
+      for (i = 0; i < 390; i++) {
+        line = "val x" i " = (" i
+        for (j = 1; j < parts; j++) line = line ", " j
+        print line ")"
+      }
+      print "in () end"
+    } else if (shape == "functions") {
+      # Eight nodes a function: two of its types, five of its body, and a use of the function before.
+      for (i = 0; i < int(want / 9); i++)
+        print "fun ~f" i " (x : int) : int = " (i > 0 ? "f" (i - 1) " x" : "x + 0") " + 1 * 2"
+      print "main = ()"
+    } else if (shape == "large types") {
+      # A tuple whose type has 999 nodes, and uses of it of three nodes each with their pair.
+      print "main = let val t = (1"
+      for (j = 1; j < 500; j++) print ", 1"
+      print ")"
+      uses = int((want - 1000) / 3)
+      for (i = 0; i < uses; i += 400) {
+        print "val u" i " = (fst t"
+        for (j = 1; j < 400 && i + j < uses; j++) print ", fst t"
+        print ")"
+      }
+      print "in () end"
+    } else {
+      # Chains of 380 cases, six nodes a case, one chain a function.
+      chains = int(want / (380 * 5 + 8))
+      if (chains < 1) chains = 1
+      for (c = 0; c < chains; c++) {
+        line = "fun ~c" c " (x : unit + unit) : int = "
+        for (i = 0; i < 380; i++) line = line "case x of inl a => " i " | inr b => "
+        line = line "0"
+        for (i = 0; i < 380; i++) line = line " end"
+        print line
+      }
+      print "main = ()"
+    }
+  }'
+}
+
+# The median of the seconds of five runs.
+measure() {
+  for _ in 1 2 3 4 5; do
+    bash -c 'TIMEFORMAT=%R; time "$0" check < "$1" > "$2"' "$program" "$1" "$folder/answer" 2>&1
+  done | sort -n | sed -n 3p
+}
+
+printf '%-12s %8s %8s %9s %10s %7s  %s\n' shape nodes bytes seconds 'peak KiB' growth answer
+for shape in 'one let' functions 'large types' 'case chains'; do
+  last=0
+  for nodes in 3900 7800 15600; do
+    input "$shape" "$nodes" > "$folder/input"
+    bytes=$(wc -c < "$folder/input")
+    seconds=$(measure "$folder/input")
+    peak=$(python3 -c 'import resource, subprocess, sys
+subprocess.run([sys.argv[1], "check"], stdin=open(sys.argv[2]), stdout=subprocess.DEVNULL)
+print(resource.getrusage(resource.RUSAGE_CHILDREN).ru_maxrss)' "$program" "$folder/input" 2>/dev/null || echo -)
+    growth=$(awk -v a="$seconds" -v b="$last" 'BEGIN { if (b > 0) printf "%.2f", a / b; else print "-" }')
+    printf '%-12s %8s %8s %9s %10s %7s  %s\n' "$shape" "$nodes" "$bytes" "$seconds" "$peak" "$growth" "$(head -n 1 "$folder/answer")"
+    last=$seconds
+  done
+done
