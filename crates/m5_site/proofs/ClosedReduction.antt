@@ -1,5 +1,5 @@
 -- What a closed node becomes is closed.
-use Rattle.std.proofs.Common.{◌≡◌, ℕ, ℤ, Bool, true, false, IsTrue, List, [], ◌∷◌, Option, Some, None, refl, if◌then◌else◌, int_eq, pos}
+use Rattle.std.proofs.Common.{◌≡◌, ℕ, Bool, true, false, IsTrue, [], ◌∷◌, Option, Some, None, refl, if◌then◌else◌, int_eq, pos}
 use Rattle.std.specs.Prelude.{slice_get}
 use Rattle.m5_terms.specs.Expression.{Expression, leaf, unary, binary, ternary}
 use Rattle.m5_terms.specs.TypeExpression.{same_world}
@@ -19,7 +19,7 @@ use Rattle.m5_terms.specs.declared.form.TernaryForm.TheVariants as ternary_form
 use Rattle.m5_terms.specs.Substitution.{substituted}
 use Rattle.m5_typing.specs.declared.functions.Function.{Function}
 use Rattle.m5_meaning.specs.Site.{Program}
-use Rattle.m5_meaning.specs.Reduction.{Reduced, gives, makes_text, goes_on, makes_cell, loads, stores, leaves, says, sets, writes, gets, reads, handles, watches, wrong, called, called_extern, called_function, first_of, second_of, text_of_number, divided, operated, at_cell, got, unheld, unsham, reduced_unary, reduced_binary, chosen, case_of_sum, case_of_list, reduced_ternary, reduced}
+use Rattle.m5_meaning.specs.Reduction.{Reduced, gives, goes_on, makes_cell, loads, stores, leaves, handles, watches, called, called_extern, called_function, first_of, second_of, text_of_number, divided, operated, at_cell, got, unheld, unsham, reduced_unary, reduced_binary, chosen, case_of_sum, case_of_list, reduced_ternary, reduced}
 use Rattle.m5_site.specs.ClosedSite.{IsClosedProgram}
 use Rattle.m5_site.proofs.ClosedTerm.{left, right, bound}
 

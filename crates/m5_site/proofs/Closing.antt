@@ -1,12 +1,11 @@
 -- A closed site stays closed.
-use Rattle.std.proofs.Common.{◌≡◌, ℕ, zero, suc, Bool, true, false, IsTrue, List, [], ◌∷◌, ◌++◌, length, Option, Some, None, refl, if◌then◌else◌, nat_lt, subst, ◌<◌, ◌≤◌, arith}
+use Rattle.std.proofs.Common.{◌≡◌, ℕ, zero, suc, Bool, true, false, List, [], ◌∷◌, ◌++◌, length, Option, Some, None, refl, if◌then◌else◌, nat_lt, subst, ◌<◌, ◌≤◌, arith}
 use Rattle.std.proofs.lemmas.Bool.{ltb-true}
-use Rattle.std.specs.Prelude.{slice_get, slice_set, All}
+use Rattle.std.specs.Prelude.{slice_get, All}
 use Rattle.std.proofs.lemmas.List.Elements.{All-nil, All-cons, All-head, All-tail, All-append, All-set, All-push}
 use Rattle.m5_terms.specs.Expression.{Expression, leaf, unary, binary, ternary}
 use Rattle.m5_terms.specs.Closed.{IsClosed, closed_under}
 use Rattle.m5_terms.specs.declared.types.World.{World}
-use Rattle.m5_terms.specs.declared.form.LeafForm.{LeafForm}
 use Rattle.m5_terms.specs.declared.form.LeafForm.TheVariants as leaf_form
 use Rattle.m5_terms.specs.declared.form.UnaryForm.{UnaryForm}
 use Rattle.m5_terms.specs.declared.form.UnaryForm.TheVariants as unary_form
@@ -16,12 +15,12 @@ use Rattle.m5_terms.specs.declared.thread.Frame.{Frame}
 use Rattle.m5_terms.specs.declared.thread.Frame.TheVariants.{Part, Return}
 use Rattle.m5_terms.specs.declared.thread.Focus.{Focus}
 use Rattle.m5_terms.specs.declared.thread.Focus.TheVariants.{Eval, Returned}
-use Rattle.m5_meaning.specs.Asks.{Query, on, watch, Reply, done, found, missing, message, fired, event, nothing}
+use Rattle.m5_meaning.specs.Asks.{Query, on, watch, Reply, done, found, missing, message, fired, event}
 use Rattle.m5_meaning.specs.Parts.{parts, part, fill, inner_world, unary_parts, binary_parts}
 use Rattle.m5_meaning.specs.Site.{Program, Thread, Site, Item, thread, raw}
 use Rattle.m5_meaning.specs.Reduction.{Reduced, gives, makes_text, goes_on, makes_cell, loads, stores, leaves, says, sets, writes, gets, reads, handles, watches, reduced, unit_value}
 use Rattle.m5_meaning.specs.Reduction as reduction
-use Rattle.m5_meaning.specs.Step.{SiteNext, thread_of, stepped, is_full, stopped_by, stops_full, atom, loaded, after_done, after_get_text, after_read, adds_handler, outcome, part_begun, evaluated, returned, focused, handler_thread, handler_threads, begun, after_take, front, site_next}
+use Rattle.m5_meaning.specs.Step.{SiteNext, thread_of, stepped, is_full, stopped_by, stops_full, atom, loaded, after_done, after_get_text, after_read, adds_handler, outcome, part_begun, evaluated, returned, focused, handler_thread, handler_threads, begun, after_take, front}
 use Rattle.m5_site.specs.ClosedSite.{IsClosedFrame, IsClosedFocus, IsClosedThread, IsClosedSite, IsClosedProgram, IsClosedQuery, IsClosedReply, IsClosedNext, StaysClosed}
 use Rattle.std.specs.Prelude.{Result, Ok, Err, IfOk}
 use Rattle.std.specs.declared.alloc.AllocError.{AllocError}

@@ -1,5 +1,5 @@
 -- The quotient of two numbers of 64 bits fits 64 bits, or it is that by minus one.
-use Rattle.std.proofs.Common.{◌≡◌, ◌≢◌, ℕ, zero, suc, ◌+◌, ◌-◌, ◌/◌, ◌<◌, ◌≤◌, ◌^◌, ◌∙◌, refl, sym, ap, w64, FitsSigned, to_z, of_z, arith}
+use Rattle.std.proofs.Common.{◌≡◌, ◌≢◌, ℕ, zero, suc, ◌/◌, ◌∙◌, refl, sym, ap, w64, FitsSigned, to_z, of_z, arith}
 use Rattle.std.specs.Prelude.{ℤ, pos, negsuc, int_div}
 use Rattle.std.specs.Int.{int_wrap, int_wrapping_neg, int_wrapping_div}
 use Rattle.std.specs.Int.RustNames.{unsigned_abs}

@@ -1,19 +1,17 @@
 -- A typed program has no free variables.
-use Rattle.std.proofs.Common.{◌≡◌, ℕ, List, [], ◌∷◌, Some, IsTrue, refl}
-use Rattle.std.specs.Prelude.{slice_get}
-use Rattle.m5_terms.specs.Expression.{Expression, unary}
+use Rattle.std.proofs.Common.{refl}
+use Rattle.m5_terms.specs.Expression.{unary}
 use Rattle.m5_terms.specs.TypeExpression.{unit}
 use Rattle.m5_terms.specs.declared.types.World.TheVariants.{Home}
-use Rattle.m5_terms.specs.Closed.{closed_under}
 use Rattle.m5_terms.specs.declared.form.UnaryForm.TheVariants as unary_form
 use Rattle.m5_typing.specs.declared.functions.Function.{Function}
-use Rattle.m5_typing.specs.Program.{IsProgram, FunctionTyped, setting_of, declared_type}
+use Rattle.m5_typing.specs.Program.{FunctionTyped, setting_of, declared_type}
 use Rattle.m5_typing.specs.Context.{nothing}
 use Rattle.m5_typing.specs.Typing.{Typed}
 use Rattle.m5_typing.proofs.ClosedTerms.{closed_terms}
 use Rattle.m5_typing.proofs.Declared.{declared_is_typed}
 use Rattle.m5_meaning.specs.Site.{Program}
-use Rattle.m5_site.specs.ClosedSite.{IsClosedProgram, TypedProgramIsClosed}
+use Rattle.m5_site.specs.ClosedSite.{TypedProgramIsClosed}
 
 -- a declared function is typed as a function of its parameter
 as-function : (P : Program) (g : Function) → FunctionTyped P.functions g → Typed (setting_of P.functions) nothing g.world (unary (unary_form.Fn g.parameter g.ty) g.body) (declared_type g)

@@ -1,5 +1,5 @@
 -- Sites without free variables, and sites whose numbers have room for a step.
-use Rattle.std.specs.Prelude.{◌≡◌, ℕ, ◌<◌, ◌^◌, List, [], ◌∷◌, All, IsTrue, Option, Some, slice_get}
+use Rattle.std.specs.Prelude.{◌≡◌, ℕ, ◌<◌, ◌^◌, [], ◌∷◌, All, IsTrue, Some, slice_get}
 use Rattle.m5_terms.specs.Closed.{IsClosed, closed_under}
 use Rattle.m5_terms.specs.declared.types.World.{World}
 use Rattle.m5_terms.specs.declared.thread.Frame.{Frame}

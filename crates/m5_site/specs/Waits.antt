@@ -1,5 +1,5 @@
 -- What the code's asks and waiting sites stand for.
-use Rattle.std.specs.Prelude.{◌≡◌, ℕ, Bool, false, ◌∷◌, Option, Some}
+use Rattle.std.specs.Prelude.{◌≡◌, Bool, false, ◌∷◌, Option, Some}
 use Rattle.m5_terms.specs.declared.types.World.{World}
 use Rattle.m5_meaning.specs.Machine.{goes, asks, wrong}
 use Rattle.m5_meaning.specs.Asks.{Query, Reply}
@@ -17,7 +17,6 @@ use Rattle.m5_site.specs.declared.query.SiteReply.{SiteReply}
 use Rattle.m5_site.specs.declared.query.SiteReply.TheVariants as reply
 use Rattle.m5_site.specs.declared.resume.Wait.{Wait}
 use Rattle.m5_site.specs.declared.resume.Wait.TheVariants as wait
-use Rattle.m5_site.specs.declared.resume.Waiting.{Waiting}
 use Rattle.m5_site.specs.declared.advance.Progress.{Progress}
 use Rattle.m5_site.specs.declared.advance.Progress.TheVariants as progress
 

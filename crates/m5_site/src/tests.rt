@@ -124,7 +124,7 @@ fn steps_small_terms_to_what_they_say(rt: HostRuntime) -> Result<(), Fail> {
     assert_eq!(rt; said(alloc, &rules, 0)?, Some((b'a', 4, 5)));
     assert_eq!(rt; said(alloc, &rules, 1)?, Some((b'5', 10, 11)));
     assert_eq!(rt; said(alloc, &rules, 2)?, Some((b'p', 10, 12)));
-    assert_eq!(rt; said(alloc, &rules, 3)?, Some((b'c', 7, 8)));
+    assert_eq!(rt; said(alloc, &rules, 3)?, Some((b'c', 8, 9)));
     Ok(())
 }
 

@@ -1,4 +1,4 @@
-use Rattle.std.proofs.Common.{◌≡◌, ◌∷◌, sym, ◌∙◌}
+use Rattle.std.proofs.Common.{◌∷◌, sym, ◌∙◌}
 use Rattle.m5_terms.specs.declared.thread.Frame.TheVariants.{Part}
 use Rattle.m5_terms.specs.declared.thread.Focus.TheVariants.{Returned}
 use Rattle.m5_meaning.specs.Step.{thread_of}
