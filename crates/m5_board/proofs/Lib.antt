@@ -1,0 +1,4 @@
+pub mod Keys
+pub mod DeskChanges
+pub mod Posting
+pub mod Replies

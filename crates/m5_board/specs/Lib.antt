@@ -1,0 +1,5 @@
+pub mod BoardLists
+pub mod LinkItems
+pub mod BoardCodes
+pub mod Pairs
+pub mod Answers

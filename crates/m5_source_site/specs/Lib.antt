@@ -1,0 +1,5 @@
+pub mod Codes
+pub mod ClosedSite
+pub mod Reductions
+pub mod Atoms
+pub mod Waits

@@ -1,0 +1,22 @@
+//! One site of the meaning as code: its local steps, its asks, and what each answer makes of it.
+#![tactic(auto)]
+
+pub mod advance;
+mod atom;
+mod extern_call;
+mod give;
+pub mod laws;
+mod operate;
+mod outcome;
+mod parts;
+pub mod query;
+pub mod queue;
+mod reduce;
+mod reduced;
+pub mod resume;
+pub mod rules;
+pub mod site;
+mod size;
+#[cfg(test)]
+mod tests;
+pub mod thread;

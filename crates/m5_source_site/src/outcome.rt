@@ -1,0 +1,237 @@
+//! What a site does next once a node is reduced.
+
+ghost use Rattle.std.specs.Prelude.{◌≡◌, ◌<◌, ◌^◌, false, [], ◌∷◌, ◌++◌, length, IfOk, slice_get, slice_set};
+ghost use Rattle.m5_terms.specs.Expression.{leaf};
+ghost use Rattle.m5_terms.specs.declared.form.LeafForm.TheVariants as leaf_form;
+ghost use Rattle.m5_terms.specs.declared.thread.Focus.TheVariants.{Eval, Returned};
+ghost use Rattle.m5_terms.specs.declared.thread.Frame.TheVariants.{Return};
+ghost use Rattle.m5_terms.specs.declared.types.World.{World};
+ghost use Rattle.m5_meaning.specs.Site.{Program};
+ghost use Rattle.m5_meaning.specs.Step.{stepped, thread_of, outcome, is_full};
+ghost use Rattle.m5_meaning.specs.Reduction.{unit_value};
+ghost use Rattle.m5_source_site.specs.ClosedSite.{HasRoom};
+ghost use Rattle.m5_source_site.specs.Reductions.{reduction_of};
+ghost use Rattle.m5_source_site.specs.Waits.{with_front, lacks_place, IsAsk, Stands};
+
+use crate::advance::Progress;
+use crate::query::SiteQuery;
+use crate::reduced::Reduced;
+use crate::resume::{Wait, Waiting};
+use crate::rules::Rules;
+use crate::site::Site;
+use crate::thread::{FrameQueue, SiteThread};
+use m5_terms::form::LeafForm;
+use m5_terms::node::Node;
+use m5_terms::text::Text;
+use m5_terms::thread::{Focus, Frame};
+use m5_terms::types::World;
+use std::alloc::{AllocError, Global};
+
+/// The site after one step more, its front thread with these frames and this focus.
+pub(crate) fn step_to(
+    rules: &Rules<'_>,
+    mut site: Site,
+    made: u64,
+    frames: FrameQueue,
+    focus: Focus,
+) -> Result<Site, AllocError>
+    requires room { HasRoom site }
+    requires made { made < 2 ^ 63 }
+    ensures { IfOk result (λ t. t ≡ stepped rules.now made site (thread_of frames focus ∷ site.threads)) }
+{
+    site.put_front(SiteThread::new(frames, focus))?;
+    site.count_step(rules, made);
+    Ok(site)
+}
+
+/// The site whose front thread gets unit once the ask is answered.
+fn told(mut site: Site, frames: FrameQueue, at: World) -> Result<Waiting, AllocError>
+    ensures { IfOk result (λ x. x ≡ record { site = with_front (thread_of frames (Returned at unit_value)) site; wait = Wait.Told }) }
+{
+    let unit = Focus::Returned(at, Node::leaf(LeafForm::Unit));
+    site.put_front(SiteThread::new(frames, unit))?;
+    Ok(Waiting {
+        site,
+        wait: Wait::Told,
+    })
+}
+
+/// The site as it was before its front thread was taken off, to be stopped.
+pub(crate) fn full(mut site: Site, frames: FrameQueue, focus: Focus) -> Result<Waiting, AllocError>
+    ensures { IfOk result (λ x. x ≡ record { site = with_front (thread_of frames focus) site; wait = Wait.ToStop }) }
+{
+    site.put_front(SiteThread::new(frames, focus))?;
+    Ok(Waiting {
+        site,
+        wait: Wait::ToStop,
+    })
+}
+
+pub(crate) fn return_text(
+    rules: &Rules<'_>,
+    site: Site,
+    frames: FrameQueue,
+    at: World,
+    text: Text,
+) -> Result<Site, AllocError>
+    requires { HasRoom site }
+    ensures { IfOk result (λ t. t ≡ stepped rules.now (length text) site (thread_of frames (Returned at (leaf (leaf_form.Str text))) ∷ site.threads)) }
+{
+    let made = text.bytes().len() as u64;
+    let value = Node::leaf(LeafForm::Str(text));
+    step_to(rules, site, made, frames, Focus::Returned(at, value))
+}
+
+fn return_cell(
+    rules: &Rules<'_>,
+    here: World,
+    mut site: Site,
+    frames: FrameQueue,
+    at: World,
+    content: Node,
+) -> Result<Site, AllocError>
+    requires room { HasRoom site }
+    requires place { is_full site.cells ≡ false }
+    ensures { IfOk result (λ t. t ≡ record (stepped rules.now 0 site (thread_of frames (Returned at (leaf (leaf_form.CellAt here (length site.cells)))) ∷ site.threads)) { cells = site.cells ++ content ∷ [] }) }
+{
+    let number = site.add_cell(content)?;
+    let value = Node::leaf(LeafForm::CellAt(here, number));
+    step_to(rules, site, 0, frames, Focus::Returned(at, value))
+}
+
+fn copy_cell(alloc: Global, site: &Site, number: u32) -> Result<Option<Node>, AllocError>
+    ensures { IfOk result (λ o. o ≡ slice_get site.now.cells number) }
+{
+    match site.cell(number) {
+        Some(content) => Ok(Some(content.copy(alloc)?)),
+        None => Ok(None),
+    }
+}
+
+fn store(
+    rules: &Rules<'_>,
+    mut site: Site,
+    frames: FrameQueue,
+    at: World,
+    cell: (u32, Node),
+) -> Result<Site, AllocError>
+    requires { HasRoom site }
+    ensures { IfOk result (λ t. t ≡ record (stepped rules.now 0 site (thread_of frames (Returned at unit_value) ∷ site.threads)) { cells = slice_set site.cells cell.0 cell.1 }) }
+{
+    let (number, content) = cell;
+    site.set_cell(number, content);
+    let unit = Node::leaf(LeafForm::Unit);
+    step_to(rules, site, 0, frames, Focus::Returned(at, unit))
+}
+
+/// The thread that leaves, whose value is to come back to where it was.
+fn leaving(
+    mut frames: FrameQueue,
+    at: World,
+    there: World,
+    term: Node,
+) -> Result<SiteThread, AllocError>
+    ensures { IfOk result (λ t. t ≡ thread_of (Return at ∷ frames) (Eval there term)) }
+{
+    frames.push_front(Frame::Return(at))?;
+    Ok(SiteThread::new(frames, Focus::Eval(there, term)))
+}
+
+/// The site with one handler more, and the handler's number.
+fn registered(
+    mut site: Site,
+    frames: FrameQueue,
+    at: World,
+    handler: Node,
+) -> Result<(u32, Waiting), AllocError>
+    requires { is_full site.handlers ≡ false }
+    ensures number { IfOk result (λ r. r.0 ≡ length site.handlers) }
+    ensures waiting { IfOk result (λ r. r.1 ≡ record { site = with_front (thread_of frames (Returned at unit_value)) (record site { handlers = site.handlers ++ handler ∷ [] }); wait = Wait.Told }) }
+{
+    let number = site.add_handler(handler)?;
+    Ok((number, told(site, frames, at)?))
+}
+
+/// What a reduction leads to whose site asks the board.
+fn ask(site: Site, frames: FrameQueue, at: World, reduced: Reduced) -> Result<Progress, AllocError>
+    requires asks { IsAsk (reduction_of reduced) }
+    requires place { lacks_place site (reduction_of reduced) ≡ false }
+    ensures { (P : Program) (u : World) → IfOk result (λ a. Stands P u a (outcome P u site site.threads frames at (reduction_of reduced))) }
+{
+    match reduced {
+        Reduced::Says(text) => { Ok(Progress::Asks(SiteQuery::Say(text), told(site, frames, at)?)) }
+        Reduced::Sets(element, text) => {
+            Ok(Progress::Asks(SiteQuery::Set(element, text), told(site, frames, at)?))
+        }
+        Reduced::Writes(key, text) => {
+            Ok(Progress::Asks(SiteQuery::Write(key, text), told(site, frames, at)?))
+        }
+        Reduced::Gets(element) => {
+            let wait = Wait::ForText(frames, at);
+            Ok(Progress::Asks(SiteQuery::GetText(element), Waiting { site, wait }))
+        }
+        Reduced::Reads(key) => {
+            let wait = Wait::ForRead(frames, at);
+            Ok(Progress::Asks(SiteQuery::Read(key), Waiting { site, wait }))
+        }
+        Reduced::Handles(element, handler) => {
+            let (number, waiting) = registered(site, frames, at, handler)?;
+            Ok(Progress::Asks(SiteQuery::On(element, number), waiting))
+        }
+        Reduced::Watches(key, handler) => {
+            let (number, waiting) = registered(site, frames, at, handler)?;
+            Ok(Progress::Asks(SiteQuery::Watch(key, number), waiting))
+        }
+        Reduced::Leaves(there, term) => {
+            let thread = leaving(frames, at, there, term)?;
+            let wait = Wait::Told;
+            Ok(Progress::Asks(SiteQuery::Send(there, thread), Waiting { site, wait }))
+        }
+        _ => unreachable!(),
+    }
+}
+
+/// What a reduction leads to, at the world `here` of the site, where there is a place for what it
+/// adds.
+pub(crate) fn conclude(
+    alloc: Global,
+    rules: &Rules<'_>,
+    here: World,
+    site: Site,
+    frames: FrameQueue,
+    at: World,
+    reduced: Reduced,
+) -> Result<Progress, AllocError>
+    requires room { HasRoom site }
+    requires place { lacks_place site (reduction_of reduced) ≡ false }
+    ensures { IfOk result (λ a. Stands rules.now here a (outcome rules.now here site site.threads frames at (reduction_of reduced))) }
+{
+    match reduced {
+        Reduced::Gives(value) => {
+            let after = step_to(rules, site, 0, frames, Focus::Returned(at, value))?;
+            Ok(Progress::Goes(after))
+        }
+        Reduced::MakesText(text) => {
+            Ok(Progress::Goes(return_text(rules, site, frames, at, text)?))
+        }
+        Reduced::GoesOn(term) => {
+            let after = step_to(rules, site, 0, frames, Focus::Eval(at, term))?;
+            Ok(Progress::Goes(after))
+        }
+        Reduced::MakesCell(value) => {
+            Ok(Progress::Goes(return_cell(rules, here, site, frames, at, value)?))
+        }
+        Reduced::Loads(number) => match copy_cell(alloc, &site, number)? {
+            Some(value) => {
+                let after = step_to(rules, site, 0, frames, Focus::Returned(at, value))?;
+                Ok(Progress::Goes(after))
+            }
+            None => Ok(Progress::Wrong),
+        },
+        Reduced::Stores(number, value) => {
+            Ok(Progress::Goes(store(rules, site, frames, at, (number, value))?))
+        }
+        Reduced::Wrong => Ok(Progress::Wrong),
+        asked => ask(site, frames, at, asked),
+    }
+}
