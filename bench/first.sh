@@ -16,9 +16,12 @@ input() {
     print "main = let"
     size = 60
     block = 0
-    while (size < want - 60 && block < 390) {
+    # A text of 90 bytes a saying, so that 256 KiB stay below 16,000 nodes.
+    long = ""
+    while (length(long) < 90) long = long "yz"
+    while (size < want - 160 && block < 390) {
       text = "do let val a" block " = \"x\" ^ str " block
-      for (i = 0; i < 40 && size + length(text) < want - 80; i++) text = text " do say (a" block " ^ \"yz\")"
+      for (i = 0; i < 40 && size + length(text) < want - 180; i++) text = text " do say (a" block " ^ \"" long "\")"
       text = text " in say a" block " end"
       print text
       size += length(text) + 1

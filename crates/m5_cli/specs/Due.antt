@@ -1,5 +1,5 @@
 -- What is due for a job and an input: the status, and the text that is written with it.
-use Rattle.std.specs.Prelude.{◌≡◌, ◌≤◌, ◌<◌, ◌⊎◌, ℕ, List, length, take, codes}
+use Rattle.std.specs.Prelude.{◌≡◌, ◌≤◌, ◌<◌, ◌⊎◌, ℕ, List, length, take, codes, Ok, Err}
 use Rattle.std.specs.Io.KnownBytes.{Appends, Keeps}
 use Rattle.std.specs.declared.option.Option.{Option}
 use Rattle.m5_tree.specs.declared.tree.Tree.{Tree}
@@ -10,7 +10,9 @@ use Rattle.m5_front.specs.Refusal.{HasFault}
 use Rattle.m5_front.specs.declared.refusal.Refusal.{Refusal}
 use Rattle.m5_cli.specs.First.{IsFirst, IsRunTrace}
 use Rattle.m5_cli.specs.Input.{parts_of}
-use Rattle.m5_cli.specs.Refusal.{refusal_line, status_of}
+use Rattle.m5_script.specs.Scenario.{Scenario}
+use Rattle.m5_script.specs.Script.{Fault, script_of}
+use Rattle.m5_cli.specs.Refusal.{refusal_line, script_line, status_of}
 use Rattle.m5_cli.specs.declared.words.Job.{Job}
 use Rattle.m5_cli.specs.declared.words.Job.TheVariants as job
 use Rattle.m5_cli.specs.declared.status.Status.{Status}
@@ -24,6 +26,10 @@ input_limit = 262144
 abbrev pub Accepts : List ℕ → Tree → RawTerm → ProgramTerm → Type 0
 Accepts input tree raw program = IsAccepted (parts_of input).program tree raw program
 
+-- the script text of an input says this
+abbrev pub SaysScript : List ℕ → Scenario → Type 0
+SaysScript input scenario = script_of (parts_of input).script ≡ Ok scenario
+
 -- an input of the first form, and the trace of its run
 pub record IsTraceOf (input text : List ℕ) : Type 0 where
   pub short : length input ≤ input_limit
@@ -31,17 +37,21 @@ pub record IsTraceOf (input text : List ℕ) : Type 0 where
   pub raw : RawTerm
   pub program : ProgramTerm
   pub accepted : Accepts input tree raw program
-  pub first : IsFirst (parts_of input).script tree program
-  pub runs : IsRunTrace program text
+  pub scenario : Scenario
+  pub script : SaysScript input scenario
+  pub first : IsFirst (parts_of input).script scenario tree program
+  pub runs : IsRunTrace program scenario text
 
--- an accepted program, where program or script is not of the first form
+-- an accepted program and a script, of which one is not of the first form
 pub record IsUnbuilt (input text : List ℕ) : Type 0 where
   pub short : length input ≤ input_limit
   pub tree : Tree
   pub raw : RawTerm
   pub program : ProgramTerm
   pub accepted : Accepts input tree raw program
-  pub other : IsFirst (parts_of input).script tree program → ⊥
+  pub scenario : Scenario
+  pub script : SaysScript input scenario
+  pub other : IsFirst (parts_of input).script scenario tree program → ⊥
   pub line : text ≡ codes "refused unbuilt\n"
 
 -- an accepted program, whatever its script
@@ -52,6 +62,17 @@ pub record IsChecked (input text : List ℕ) : Type 0 where
   pub program : ProgramTerm
   pub accepted : Accepts input tree raw program
   pub line : text ≡ codes "accepted\n"
+
+-- an accepted program, and a script text with this first bad line
+pub record IsBadScript (input text : List ℕ) : Type 0 where
+  pub short : length input ≤ input_limit
+  pub tree : Tree
+  pub raw : RawTerm
+  pub program : ProgramTerm
+  pub accepted : Accepts input tree raw program
+  pub bad : Fault
+  pub script : script_of (parts_of input).script ≡ Err bad
+  pub line : text ≡ script_line bad.line bad.kind
 
 -- a program text with a fault whose status this is, so that it is not accepted
 pub record IsRefusal (meant : Status) (input text : List ℕ) : Type 0 where
@@ -72,11 +93,17 @@ abbrev pub UnbuiltFor : Job → List ℕ → List ℕ → Type 0
 UnbuiltFor job.Check input text = ⊥
 UnbuiltFor job.Run input text = IsUnbuilt input text
 
+-- `check` ignores the script
+abbrev pub BadScriptFor : Job → List ℕ → List ℕ → Type 0
+BadScriptFor job.Check input text = ⊥
+BadScriptFor job.Run input text = IsBadScript input text
+
 -- what is due with each status; want of memory alone may come at any input
 abbrev pub Due : Job → List ℕ → Status → List ℕ → Type 0
 Due job input status.Rest text = Output job input text
 Due job input status.BadText text = IsRefusal status.BadText input text
 Due job input status.BadTypes text = IsRefusal status.BadTypes input text
+Due job input status.BadScript text = BadScriptFor job input text
 Due job input status.Unbuilt text = UnbuiltFor job input text
 Due job input status.TooLong text = (input_limit < length input) × (text ≡ codes "refused long\n")
 Due job input status.NoMemory text = text ≡ codes "refused memory\n"

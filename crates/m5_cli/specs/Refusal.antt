@@ -1,4 +1,4 @@
--- The line of a refused program text, and its status.
+-- The lines of refused program texts and scripts, and the status of a program's fault.
 use Rattle.std.specs.Prelude.{ℕ, List, ◌++◌, codes}
 use Rattle.std.specs.Fmt.{decimal}
 use Rattle.m5_lex.specs.declared.place.Place.{Place}
@@ -7,6 +7,8 @@ use Rattle.m5_elaborate.specs.declared.end.Kind.TheVariants as kind
 use Rattle.m5_front.specs.declared.refusal.Fault.{Fault}
 use Rattle.m5_front.specs.declared.refusal.Fault.TheVariants.{Byte, Number, Syntax, Deep, TooMany, Unbound, Repeated, BadExtern, Types}
 use Rattle.m5_front.specs.declared.refusal.Refusal.{Refusal}
+use Rattle.m5_script.specs.declared.reading.LineKind.{LineKind}
+use Rattle.m5_script.specs.declared.reading.LineKind.TheVariants as line
 use Rattle.m5_cli.specs.declared.status.Status.{Status}
 use Rattle.m5_cli.specs.declared.status.Status.TheVariants.{BadText, BadTypes}
 
@@ -54,3 +56,15 @@ status_of Unbound = BadTypes
 status_of Repeated = BadTypes
 status_of BadExtern = BadTypes
 status_of (Types k) = BadTypes
+
+abbrev pub line_kind_word : LineKind → List ℕ
+line_kind_word line.Syntax = codes "syntax"
+line_kind_word line.Late = codes "late"
+line_kind_word line.Again = codes "again"
+line_kind_word line.Range = codes "range"
+line_kind_word line.Sealed = codes "sealed"
+line_kind_word line.Many = codes "many"
+
+-- the first bad line of a script, counted from 1, and its kind
+abbrev pub script_line : ℕ → LineKind → List ℕ
+script_line number k = codes "refused script " ++ decimal number ++ codes " " ++ line_kind_word k ++ codes "\n"

@@ -10,6 +10,7 @@ number_of status.ReadFault = 2
 number_of status.WriteFault = 3
 number_of status.BadText = 4
 number_of status.BadTypes = 5
+number_of status.BadScript = 6
 number_of status.NoMemory = 7
 number_of status.TooLong = 8
 number_of status.Unbuilt = 11

@@ -1,20 +1,24 @@
 //! What is due for an input that was read whole: a status and the text that is written with it.
 
-ghost use Rattle.std.specs.Prelude.{◌≡◌, ◌≤◌, length, IfOk};
+ghost use Rattle.std.specs.Prelude.{◌≡◌, ◌≤◌, length, Err, IfOk};
 ghost use Rattle.m5_raw.specs.RawTerm.{RawTerm};
 ghost use Rattle.m5_tree.specs.declared.tree.Tree.{Tree as TreeOf};
 ghost use Rattle.m5_typing.specs.Program.{ProgramTerm};
 ghost use Rattle.m5_front.specs.Refusal.{HasFault};
-ghost use Rattle.m5_cli.specs.Due.{Due, Accepts, input_limit};
+ghost use Rattle.m5_script.specs.Script.{script_of};
+ghost use Rattle.m5_cli.specs.Due.{Due, Accepts, SaysScript, input_limit};
 ghost use Rattle.m5_cli.specs.Input.{parts_of};
 
 use crate::first::first_trace;
 use crate::input::split;
-use crate::refusal::{fault_status, refusal_text};
+use crate::refusal::{fault_status, refusal_text, script_text};
 use crate::status::Status;
 use crate::words::Job;
 use m5_front::program::{Accepted, read_program};
 use m5_front::refusal::{FrontEnd, Refusal};
+use m5_script::read::{ScriptEnd, read_script};
+use m5_script::reading::LineKind;
+use m5_script::script::Script;
 use m5_terms::text::Text;
 use std::alloc::{AllocError, Global};
 
@@ -51,18 +55,20 @@ fn checked(alloc: Global, input: &[u8], accepted: &Accepted) -> Result<Answer, A
 }
 
 /// What `run` owes for an accepted program and a script.
-fn run(
+fn run_script(
     alloc: Global,
     input: &[u8],
     accepted: &Accepted,
-    script: &[u8],
+    text: &[u8],
+    script: &Script,
 ) -> Result<Answer, AllocError>
     requires short { length input.now ≤ input_limit }
     requires accepted { Accepts input.now accepted.now.tree accepted.now.raw accepted.now.program }
-    requires script { script.now ≡ (parts_of input.now).script }
+    requires text { text.now ≡ (parts_of input.now).script }
+    requires script { SaysScript input.now script.now }
     ensures { IfOk result (λ answer. Due Job.Run input.now answer.status answer.text) }
 {
-    match first_trace(alloc, accepted, script)? {
+    match first_trace(alloc, accepted, text, script)? {
         Some(text) => Ok(Answer {
             status: Status::Rest,
             text,
@@ -71,6 +77,40 @@ fn run(
             status: Status::Unbuilt,
             text: Text::of(alloc, b"refused unbuilt\n")?,
         }),
+    }
+}
+
+/// What is due for a script with a bad line.
+fn bad_script(
+    alloc: Global,
+    input: &[u8],
+    accepted: &Accepted,
+    number: u32,
+    kind: LineKind,
+) -> Result<Answer, AllocError>
+    requires short { length input.now ≤ input_limit }
+    requires accepted { Accepts input.now accepted.now.tree accepted.now.raw accepted.now.program }
+    requires bad { script_of (parts_of input.now).script ≡ Err (record { line = number; kind = kind }) }
+    ensures { IfOk result (λ answer. Due Job.Run input.now answer.status answer.text) }
+{
+    Ok(Answer {
+        status: Status::BadScript,
+        text: script_text(alloc, number, kind)?,
+    })
+}
+
+/// What `run` owes for an accepted program and a script text.
+fn run(alloc: Global, input: &[u8], accepted: &Accepted, text: &[u8]) -> Result<Answer, AllocError>
+    requires short { length input.now ≤ input_limit }
+    requires accepted { Accepts input.now accepted.now.tree accepted.now.raw accepted.now.program }
+    requires text { text.now ≡ (parts_of input.now).script }
+    requires within { length text.now ≤ length input.now }
+    ensures { IfOk result (λ answer. Due Job.Run input.now answer.status answer.text) }
+{
+    match read_script(alloc, text) {
+        Ok(script) => run_script(alloc, input, accepted, text, &script),
+        Err(ScriptEnd::Memory) => Err(AllocError),
+        Err(ScriptEnd::Line(number, kind)) => bad_script(alloc, input, accepted, number, kind),
     }
 }
 

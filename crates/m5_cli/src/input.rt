@@ -33,6 +33,7 @@ pub fn split(input: &[u8]) -> (&[u8], &[u8])
     ensures program { result.0.now ≡ (parts_of input.now).program }
     ensures script { result.1.now ≡ (parts_of input.now).script }
     ensures within { length result.0.now ≤ length input.now }
+    ensures script_within { length result.1.now ≤ length input.now }
 {
     let mut at_start = true;
     for (index, byte) in input.iter().enumerate() {

@@ -48,7 +48,8 @@ fn answer<K: Sink>(alloc: Global, job: Job, input: &[u8], sink: &mut K) -> Statu
 ///
 /// `check` reads a program, and writes that it is accepted. `run` reads a program and a script, and writes the trace of the
 /// program's run. Where the input has more than 262,144 bytes the answer is `TooLong`, where the program text is refused
-/// `BadText` or `BadTypes`, and of `run`, where program or script is not of the first form, `Unbuilt`, each with its line; `ReadFault` and `WriteFault` come with a failure of the
+/// `BadText` or `BadTypes`, and of `run`, where the script is refused `BadScript`, and where program or script is not of the
+/// first form `Unbuilt`, each with its line; `ReadFault` and `WriteFault` come with a failure of the
 /// source and the sink, and `NoMemory` where memory ran out.
 pub fn plain<S: Source, K: Sink>(alloc: Global, job: Job, source: &mut S, sink: &mut K) -> Status
     ensures leaves { IfSome (S.left source.old) (λ input. Leaves job (K.held sink.old) (K.held sink.new) input result) }

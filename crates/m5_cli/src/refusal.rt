@@ -1,13 +1,14 @@
-//! The lines and statuses of refused program texts.
+//! The lines of refused program texts and scripts, and the statuses of faults.
 
 ghost use Rattle.std.specs.Prelude.{◌≡◌, ◌++◌, IfOk, OnOk};
 ghost use Rattle.std.specs.Fmt.{decimal};
-ghost use Rattle.m5_cli.specs.Refusal.{kind_word, fault_word, place_words, refusal_line, status_of};
+ghost use Rattle.m5_cli.specs.Refusal.{kind_word, fault_word, place_words, refusal_line, line_kind_word, script_line, status_of};
 
 use crate::status::Status;
 use m5_elaborate::end::Kind;
 use m5_front::refusal::{Fault, Refusal};
 use m5_lex::Place;
+use m5_script::reading::LineKind;
 use m5_terms::text::Text;
 use std::alloc::{AllocError, Global};
 
@@ -74,6 +75,33 @@ pub(crate) fn refusal_text(alloc: Global, refusal: Refusal) -> Result<Text, Allo
     put_fault(&mut out, refusal.fault)?;
     out.push(b' ')?;
     put_place(alloc, &mut out, refusal.place)?;
+    out.push(b'\n')?;
+    Text::of(alloc, out.as_slice())
+}
+
+/// Adds the word of a bad line's kind.
+fn put_line_kind(out: &mut Vec<u8>, kind: LineKind) -> Result<(), AllocError>
+    ensures { OnOk result (out.new.items ≡ out.old.items ++ line_kind_word kind) }
+{
+    match kind {
+        LineKind::Syntax => out.extend_from_slice(b"syntax"),
+        LineKind::Late => out.extend_from_slice(b"late"),
+        LineKind::Again => out.extend_from_slice(b"again"),
+        LineKind::Range => out.extend_from_slice(b"range"),
+        LineKind::Sealed => out.extend_from_slice(b"sealed"),
+        LineKind::Many => out.extend_from_slice(b"many"),
+    }
+}
+
+/// The line of a refused script: its first bad line and that line's kind.
+pub(crate) fn script_text(alloc: Global, number: u32, kind: LineKind) -> Result<Text, AllocError>
+    ensures { IfOk result (λ text. text ≡ script_line number kind) }
+{
+    let mut out = Vec::new(alloc);
+    out.extend_from_slice(b"refused script ")?;
+    put_number(alloc, &mut out, number)?;
+    out.push(b' ')?;
+    put_line_kind(&mut out, kind)?;
     out.push(b'\n')?;
     Text::of(alloc, out.as_slice())
 }

@@ -16,8 +16,10 @@ pub enum Status {
     WriteFault,
     /// The text has no tokens or no tree, or is nested too deeply.
     BadText,
-    /// The names of the program have no meaning.
+    /// The names or the types of the program are refused.
     BadTypes,
+    /// A line of the script is bad.
+    BadScript,
     /// Memory ran out.
     NoMemory,
     /// The input has more than 262,144 bytes.
@@ -38,6 +40,7 @@ impl Status {
             Status::WriteFault => 3,
             Status::BadText => 4,
             Status::BadTypes => 5,
+            Status::BadScript => 6,
             Status::NoMemory => 7,
             Status::TooLong => 8,
             Status::Unbuilt => 11,

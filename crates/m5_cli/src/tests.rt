@@ -1,6 +1,7 @@
 //! Whole calls over memory: what is written for an input, and what failures leave.
 
 mod checks;
+mod scripts;
 
 use crate::{Job, Status, Words, ml5, plain};
 use m5_base::gate::OpenGate;
@@ -44,7 +45,7 @@ fn answers_each_input(rt: HostRuntime) -> Result<(), Fail> {
     let alloc = rt.alloc();
     let deepest = brackets(alloc, 399)?;
     let too_deep = brackets(alloc, 400)?;
-    let cases: [(&[u8], u8, &[u8]); 25] = [
+    let cases: [(&[u8], u8, &[u8]); 29] = [
         (HI, 0, b"1 home say \"hi\"\nrest\n"),
         (
             b"extern val say : string -> unit @ home main = let val a = \"x\" ^ str 7 do say (a ^ \"y\") in say a end",
@@ -82,6 +83,22 @@ fn answers_each_input(rt: HostRuntime) -> Result<(), Fail> {
             b"refused Repeated 2:6\n",
         ),
         (b"main = ()\n%%\nsessions 2\n", 11, b"refused unbuilt\n"),
+        (
+            b"main = ()\n%%\nsessions 33\n",
+            6,
+            b"refused script 1 range\n",
+        ),
+        (
+            b"main = ()\n%%\n\nsteps 5\nsessions 2\n",
+            6,
+            b"refused script 3 late\n",
+        ),
+        (
+            b"main = ()\n%%\nraw 1 server \"4d4c357300000001\"\n",
+            6,
+            b"refused script 1 sealed\n",
+        ),
+        (b"main = 1\n%%\nno script\n", 5, b"refused Mismatch 1:1\n"),
         (b"main = ()\n%%\nsteps 50000\n", 11, b"refused unbuilt\n"),
         (b"main = let val x = 1 in () end", 11, b"refused unbuilt\n"),
         (b"main = 1", 5, b"refused Mismatch 1:1\n"),

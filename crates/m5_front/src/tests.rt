@@ -4,20 +4,21 @@ mod levels;
 
 use crate::program::read_program;
 use crate::refusal::{Fault, FrontEnd, Refusal};
+use m5_elaborate::end::Kind;
 use m5_lex::Place;
 use std::alloc::Global;
 use std::test::Fail;
 
-/// A program that uses every production of the grammar, and ends with a keyword.
+/// A program that uses every production of the grammar, and whose `main` stands in brackets.
 const EVERYTHING: &[u8] = b"extern val say : string -> unit @ home\n\
 extern val read : string -> unit + string @ server\n\
 fun ~f (x : int * bool + sham unit list) : (int ref at server) list = nil[int ref at server]\n\
 fun g @ server (x : home addr) : server addr = server\n\
-main = (* one (* inner *) *) let val a = fn (x : int) => rec h (y : int) : int => h x\n\
+main = (* one (* inner *) *) (let val a = fn (x : int) => rec h (y : int) : int => h x\n\
  do spawn ref 1 := 2 put ~b = (1, \"t\\n\\\"\\\\\\t\", true, false) leta c = hold here lets ~d = sham ()\n\
  val e = if 1 < 2 then fst (1, 2) + snd (3, 4) * 5 - 6 else div (7, 8) val i = !(ref 1) = 2\n\
  val j = str 1 ^ \"x\" == \"y\" val k = inl[unit + int] () val l = inr[unit + int] 1 :: nil[unit + int]\n\
- in case from home get f 1 of inl m => case nil[int] of nil => () | n :: o => a n o end | inr p => (say p) end end";
+ in case from home get f 1 of inl m => case nil[int] of nil => () | n :: o => a n o end | inr p => (say p) end end)";
 
 /// The refusal of a text, or none where it is read or memory is wanting.
 fn refusal(alloc: Global, text: &[u8]) -> Option<Refusal> {
@@ -71,18 +72,21 @@ fn each_byte_alone(rt: HostRuntime) -> Result<(), Fail> {
     Ok(())
 }
 
-/// The whole text is read up to its first unbound name, and no shorter front of it is a program.
+/// Whether a text is refused at a byte or by the grammar.
+fn is_no_program(alloc: Global, text: &[u8]) -> bool {
+    match refusal(alloc, text) {
+        Some(refusal) => refusal.fault == Fault::Syntax || refusal.fault == Fault::Byte,
+        None => false,
+    }
+}
+
+/// The whole text is a program, though its types are refused, and no shorter front of it is one.
 #[test]
 fn each_front_of_a_program(rt: HostRuntime) -> Result<(), Fail> {
     let alloc = rt.alloc();
-    assert_eq!(rt; refusal(alloc, EVERYTHING), None);
+    assert_eq!(rt; is_no_program(alloc, EVERYTHING), false);
     for length in 0..EVERYTHING.len() {
-        let answer = refusal(alloc, &EVERYTHING[..length]);
-        let is_text_fault = match answer {
-            Some(refusal) => refusal.fault == Fault::Syntax || refusal.fault == Fault::Byte,
-            None => false,
-        };
-        assert_eq!(rt; is_text_fault, true);
+        assert_eq!(rt; is_no_program(alloc, &EVERYTHING[..length]), true);
     }
     Ok(())
 }
@@ -99,11 +103,20 @@ fn refuses_at_the_first_fault(rt: HostRuntime) -> Result<(), Fail> {
         (b"main = (* (* *)", at(Fault::Byte, 1, 8)),
         (b"main = \"cut", at(Fault::Byte, 1, 12)),
         (b"main = \"a\\q\"", at(Fault::Byte, 1, 10)),
-        (b"main = 9223372036854775807", None),
+        (
+            b"main = 9223372036854775807",
+            at(Fault::Types(Kind::Mismatch), 1, 1),
+        ),
         (b"main = 9223372036854775808", at(Fault::Number, 1, 8)),
-        (b"main = 1000000000000000000", None),
+        (
+            b"main = 1000000000000000000",
+            at(Fault::Types(Kind::Mismatch), 1, 1),
+        ),
         (b"main = 10000000000000000000", at(Fault::Number, 1, 8)),
-        (b"main = 0009223372036854775807", None),
+        (
+            b"main = 0009223372036854775807",
+            at(Fault::Types(Kind::Mismatch), 1, 1),
+        ),
         (b"( 9223372036854775808 $", at(Fault::Number, 1, 3)),
         (b"main = x", at(Fault::Unbound, 1, 8)),
         (
