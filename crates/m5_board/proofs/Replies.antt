@@ -1,14 +1,14 @@
 -- Answers of the board, from what happens to its lists.
-use Rattle.std.proofs.Common.{◌≡◌, ◌≢◌, ℕ, List, [], ◌∷◌, ◌++◌, refl, sym, ap, ◌∙◌, subst}
+use Rattle.std.proofs.Common.{◌≡◌, ℕ, List, [], refl, sym, ap, ◌∙◌, subst}
 use Rattle.std.specs.Prelude.{Result, Ok, Err, IfOk}
 use Rattle.std.specs.declared.alloc.AllocError.{AllocError}
 use Rattle.std.proofs.lemmas.Bool.{eq-eqb}
 use Rattle.m5_terms.specs.declared.types.World.{World}
 use Rattle.m5_terms.specs.declared.types.World.TheVariants.{Home, Server}
 use Rattle.m5_terms.specs.declared.ask.Act.TheVariants as act
-use Rattle.m5_meaning.specs.Asks.{Query, Reply, done, message, fired, event, nothing, take}
+use Rattle.m5_meaning.specs.Asks.{Query, Reply, message, fired, event, nothing, take}
 use Rattle.m5_meaning.specs.Site.{Item}
-use Rattle.m5_network.specs.Board.{Trigger, Happening, handlers_of, Desk, Board, Answered, answered, answer_of, answered_at, at_session, with_link, take_from, take_other}
+use Rattle.m5_network.specs.Board.{Trigger, Happening, handlers_of, Desk, Board, Answered, answer_of, answered_at, at_session, with_link, take_other}
 use Rattle.m5_network.specs.Entries.{shown}
 use Rattle.m5_network.specs.Claim.{has_seal}
 use Rattle.m5_source_site.specs.Waits.{reply_of}

@@ -1,5 +1,5 @@
 -- Where a key stands among pairs.
-use Rattle.std.specs.Prelude.{◌≡◌, ℕ, ◌<◌, Bool, true, false, List, length, take, All, Some, slice_get}
+use Rattle.std.specs.Prelude.{◌≡◌, ℕ, ◌<◌, true, false, List, length, take, All, Some, slice_get}
 use Rattle.std.specs.Str.{bytes_eq}
 use Rattle.m5_script.specs.declared.items.TextPair.{TextPair}
 

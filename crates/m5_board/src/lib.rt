@@ -8,3 +8,5 @@ mod desks;
 pub mod link;
 mod pairs;
 pub mod rows;
+#[cfg(test)]
+mod tests;

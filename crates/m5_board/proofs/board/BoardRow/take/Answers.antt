@@ -1,4 +1,3 @@
-use Rattle.m5_network.specs.Board.{take_other}
 use Rattle.m5_terms.specs.declared.types.World.TheVariants.{Home, Server}
 use Rattle.m5_board.specs.BoardLists.{board_of}
 use Rattle.m5_board.proofs.Replies.{other-at}
