@@ -2,3 +2,5 @@
 #![tactic(auto)]
 
 pub mod moment;
+#[cfg(test)]
+mod tests;

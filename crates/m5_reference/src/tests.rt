@@ -1,0 +1,62 @@
+//! Where a site with one thread, which has two steps to make, is stopped.
+
+ghost use Rattle.std.specs.Prelude.{◌<◌, ◌^◌, IfOk};
+ghost use Rattle.m5_site.specs.ClosedSite.{IsClosedSite, IsClosedProgram};
+
+use crate::moment::{Limits, Moment, next_moment};
+use m5_site::queue::Queue;
+use m5_site::rules::Rules;
+use m5_site::site::Site;
+use m5_site::thread::SiteThread;
+use m5_terms::ask::Cause;
+use m5_terms::form::LeafForm;
+use m5_terms::listed::Listed;
+use m5_terms::node::Node;
+use m5_terms::thread::Focus;
+use m5_terms::types::World;
+use m5_typing::program::Program;
+use std::alloc::{AllocError, Global};
+use std::test::Fail;
+
+fn one_thread(alloc: Global) -> Result<Site, AllocError>
+    ensures { IfOk result IsClosedSite }
+{
+    let focus = Focus::Eval(World::Home, Node::leaf(LeafForm::Unit));
+    let mut threads = Queue::make(alloc);
+    threads.push_back(SiteThread::new(Queue::make(alloc), focus))?;
+    Ok(Site::opening(alloc, threads))
+}
+
+fn number_of(moment: &Moment) -> u32 {
+    match moment {
+        Moment::Stops(Cause::Spent) => 1,
+        Moment::Stops(Cause::Region) => 2,
+        Moment::Stops(Cause::Table) => 3,
+        Moment::Asks(_, _) => 4,
+        Moment::Wrong => 5,
+    }
+}
+
+fn within(alloc: Global, rules: &Rules<'_>, steps: u64, region: u64) -> Result<u32, AllocError>
+    requires program { IsClosedProgram rules.now }
+    requires steps { steps < 2 ^ 62 }
+    requires region { region < 2 ^ 62 }
+{
+    let site = one_thread(alloc)?;
+    let limits = Limits { steps, region };
+    let moment = next_moment(alloc, rules, limits, World::Home, site)?;
+    Ok(number_of(&moment))
+}
+
+#[test]
+fn stops_at_the_first_licensed_moment(rt: HostRuntime) -> Result<(), Fail> {
+    let alloc = rt.alloc();
+    let program = Program::make(Listed::make(alloc), Node::leaf(LeafForm::Unit));
+    let rules = Rules::of(&program);
+    assert_eq!(rt; within(alloc, &rules, 1, 100)?, 1);
+    assert_eq!(rt; within(alloc, &rules, 2, 100)?, 4);
+    assert_eq!(rt; within(alloc, &rules, 10, 1)?, 2);
+    assert_eq!(rt; within(alloc, &rules, 10, 2)?, 2);
+    assert_eq!(rt; within(alloc, &rules, 10, 3)?, 4);
+    Ok(())
+}
