@@ -1,13 +1,13 @@
 //! Where a site with one thread, which has two steps to make, is stopped.
 
 ghost use Rattle.std.specs.Prelude.{◌<◌, ◌^◌, IfOk};
-ghost use Rattle.m5_site.specs.ClosedSite.{IsClosedSite, IsClosedProgram};
+ghost use Rattle.m5_source_site.specs.ClosedSite.{IsClosedSite, IsClosedProgram};
 
 use crate::moment::{Limits, Moment, next_moment};
-use m5_site::queue::Queue;
-use m5_site::rules::Rules;
-use m5_site::site::Site;
-use m5_site::thread::SiteThread;
+use m5_source_site::queue::Queue;
+use m5_source_site::rules::Rules;
+use m5_source_site::site::Site;
+use m5_source_site::thread::SiteThread;
 use m5_terms::ask::Cause;
 use m5_terms::form::LeafForm;
 use m5_terms::listed::Listed;
