@@ -1,5 +1,5 @@
 -- Where a term has a type, it is found.
-use Rattle.std.proofs.Common.{◌≡◌, ◌≢◌, ◌≤◌, ◌&&◌, ◌⊎◌, inl, inr, ℕ, Bool, true, false, IsTrue, if◌then◌else◌, nat_le, Option, Some, None, List, [], refl, ap, sym, ◌∙◌, subst, arith}
+use Rattle.std.proofs.Common.{◌≡◌, ◌≢◌, ◌≤◌, ◌&&◌, inl, inr, ℕ, Bool, true, false, IsTrue, if◌then◌else◌, nat_le, Option, Some, List, refl, ap, sym, ◌∙◌, subst, arith}
 use Rattle.std.proofs.lemmas.Bool.Decides.{leb_tells}
 use Rattle.m5_lex.specs.declared.place.Place.{Place}
 use Rattle.m5_terms.specs.Expression.{Expression}
@@ -16,11 +16,11 @@ use Rattle.m5_terms.specs.declared.form.LeafForm.TheVariants as leaf_form
 use Rattle.m5_terms.specs.declared.form.UnaryForm.{UnaryForm}
 use Rattle.m5_terms.specs.declared.form.UnaryForm.TheVariants.{Fn, Rec, Fst, Snd, StrOf, Div, NewCell, Load, Hold, Sham, Spawn, Inl, Inr, Held}
 use Rattle.m5_terms.specs.declared.form.BinaryForm.{BinaryForm}
-use Rattle.m5_terms.specs.declared.form.BinaryForm.TheVariants.{Call, Pair, Cons, Store, Do, Get, Binary, Val, Put, Leta, Lets}
+use Rattle.m5_terms.specs.declared.form.BinaryForm.TheVariants.{Call, Cons, Store, Get, Binary, Val, Put, Leta, Lets}
 use Rattle.m5_terms.specs.declared.form.TernaryForm.{TernaryForm}
 use Rattle.m5_terms.specs.declared.form.TernaryForm.TheVariants.{If, CaseSum, CaseList}
 use Rattle.m5_typing.specs.Operators.{operand, outcome}
-use Rattle.m5_typing.specs.Context.{Bound, local, valid, Context, Setting, with_all, IsKnownAt}
+use Rattle.m5_typing.specs.Context.{Bound, local, Context, Setting, with_all, IsKnownAt}
 use Rattle.m5_typing.specs.Value.{is_value_form}
 use Rattle.m5_typing.specs.Rules.{IsSmall, LeafRule, unary_rule, binary_rule, ternary_rule}
 use Rattle.m5_typing.specs.Typing.{Typed, UnaryTyped, BinaryTyped, TernaryTyped, part_context}
@@ -30,13 +30,13 @@ use Rattle.m5_elaborate.specs.declared.names.Bound.TheVariants as bound
 use Rattle.m5_elaborate.specs.declared.names.Binding.TheVariants.{Nothing, One, Two}
 use Rattle.m5_elaborate.specs.declared.parts.Inside.{Inside}
 use Rattle.m5_elaborate.specs.declared.arms.Arms.{Arms}
-use Rattle.m5_elaborate.specs.Outcome.{Outcome, found, fault, refused, and_then}
+use Rattle.m5_elaborate.specs.Outcome.{Outcome, found, and_then}
 use Rattle.m5_elaborate.specs.Names.{under}
 use Rattle.m5_elaborate.specs.Parts.{if_same}
 use Rattle.m5_elaborate.specs.Erased.{erased}
 use Rattle.m5_elaborate.specs.Leaves.{is_any, local_type, valid_type, declared_type, extern_type, address_type, leaf_type}
 use Rattle.m5_elaborate.specs.Synthesis.{unary_world, unary_binding, unary_type, second_part, binary_type, arms, ternary_type}
-use Rattle.m5_elaborate.specs.Checked.{checked, limited, limited_type}
+use Rattle.m5_elaborate.specs.Checked.{checked, limited}
 use Rattle.m5_elaborate.proofs.Same.{left_true, right_true, both_true, world_self, type_self}
 use Rattle.m5_elaborate.proofs.Outcomes.{joined}
 use Rattle.m5_elaborate.proofs.Sound.{Declares}

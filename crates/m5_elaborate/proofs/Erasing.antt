@@ -1,5 +1,5 @@
 -- A term and the one without its places have as many nodes, and both or neither are of a text.
-use Rattle.std.proofs.Common.{◌≡◌, ℕ, ◌+◌, ◌≤◌, ◌<◌, Bool, ◌&&◌, IsTrue, ℤ, pos, negsuc, List, [], ◌∷◌, map, length, slice_index_or, sum_by, refl, ap, subst, sym, ◌∙◌, arith}
+use Rattle.std.proofs.Common.{◌≡◌, ℕ, ◌≤◌, ◌<◌, ◌&&◌, IsTrue, ℤ, pos, negsuc, List, [], ◌∷◌, length, slice_index_or, sum_by, refl, ap, subst, sym, ◌∙◌, arith}
 use Rattle.std.specs.List.{list_all}
 use Rattle.std.proofs.lemmas.List.Sums.{get_or-le-sum_by, sum_by-cons}
 use Rattle.m5_terms.specs.declared.form.LeafForm.{LeafForm}

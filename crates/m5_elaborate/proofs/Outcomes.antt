@@ -1,13 +1,12 @@
 -- What an outcome that finds something was made of.
-use Rattle.std.proofs.Common.{◌≡◌, ◌≢◌, ◌≤◌, ◌&&◌, ℕ, Bool, true, false, cond, if◌then◌else◌, nat_le, Option, Some, None, inl, inr, refl, ap, sym, ◌∙◌, subst, arith}
+use Rattle.std.proofs.Common.{◌≡◌, ◌≤◌, ℕ, Bool, true, false, if◌then◌else◌, nat_le, inl, inr, refl, ap, sym, ◌∙◌, subst}
 use Rattle.std.proofs.lemmas.Bool.Decides.{leb_tells}
 use Rattle.m5_lex.specs.declared.place.Place.{Place}
-use Rattle.m5_terms.specs.TypeExpression.{TypeExpression, type_node_count, same_type, same_world}
+use Rattle.m5_terms.specs.TypeExpression.{TypeExpression, type_node_count}
 use Rattle.m5_typing.specs.Rules.{IsSmall}
 use Rattle.m5_elaborate.specs.declared.end.TypeEnd.{TypeEnd}
 use Rattle.m5_elaborate.specs.Outcome.{Outcome, found, fault, and_then}
-use Rattle.m5_elaborate.specs.Parts.{if_same}
-use Rattle.m5_elaborate.specs.Checked.{limited, limited_type}
+use Rattle.m5_elaborate.specs.Checked.{limited}
 
 pub found_is : {A : Type 0} (a b : A) → found a ≡ found b → a ≡ b
 found_is a b e = cc

@@ -1,5 +1,5 @@
 -- Programs are found exactly where they are typed.
-use Rattle.std.proofs.Common.{◌≡◌, ◌≢◌, ◌≤◌, ◌&&◌, ℕ, zero, suc, Bool, true, false, IsTrue, Option, Some, None, List, [], ◌∷◌, ◌++◌, ◌+◌, ◌<◌, map, slice_get, get_or, length, take, drop, drop-cons, add-one, Result, Ok, Err, IfErr, refl, ap, sym, ◌∙◌, subst, arith}
+use Rattle.std.proofs.Common.{◌≡◌, ◌≢◌, ℕ, zero, suc, IsTrue, Option, Some, None, List, [], ◌∷◌, ◌++◌, ◌+◌, ◌<◌, slice_get, get_or, length, take, drop, drop-cons, add-one, Result, Ok, Err, IfErr, refl, ap, sym, ◌∙◌, subst, arith}
 use Rattle.std.specs.List.{list_all}
 use Rattle.std.proofs.lemmas.List.{take_more}
 use Rattle.m5_terms.specs.TypeExpression.{TypeExpression, unit, function, same_type}
@@ -7,7 +7,7 @@ use Rattle.m5_terms.specs.declared.types.World.{World}
 use Rattle.m5_terms.specs.declared.types.World.TheVariants.{Home, Server, Any}
 use Rattle.m5_terms.specs.Expression.{Expression}
 use Rattle.m5_typing.specs.declared.functions.Function as programs_function
-use Rattle.m5_typing.specs.Context.{Bound, local, Context, Setting, nothing, with}
+use Rattle.m5_typing.specs.Context.{Bound, local, Context, nothing, with}
 use Rattle.m5_typing.specs.Rules.{IsSmall}
 use Rattle.m5_typing.specs.Typing.{Typed}
 use Rattle.m5_typing.specs.Program as programs
@@ -17,7 +17,7 @@ use Rattle.m5_raw.specs.RawTerm.{RawTerm, IsRaw}
 use Rattle.m5_raw.specs.declared.function.Function.{Function}
 use Rattle.m5_elaborate.specs.declared.end.TypeEnd.{TypeEnd}
 use Rattle.m5_elaborate.specs.declared.end.TypeEnd.TheVariants.{Memory}
-use Rattle.m5_elaborate.specs.Outcome.{Outcome, found, fault, and_then, IsFault}
+use Rattle.m5_elaborate.specs.Outcome.{found, fault, and_then, IsFault}
 use Rattle.m5_elaborate.specs.Parts.{if_same}
 use Rattle.m5_elaborate.specs.Erased.{erased, erased_function, erased_functions, erased_program}
 use Rattle.m5_elaborate.specs.Checked.{checked, limited_type, declared_bound, signatures, function_checked, main_checked, rest_elaborated, elaborated}

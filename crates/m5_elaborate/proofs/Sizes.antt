@@ -1,5 +1,5 @@
 -- The nodes of a type.
-use Rattle.std.proofs.Common.{ℕ, ◌+◌, ◌≤◌, arith}
+use Rattle.std.proofs.Common.{◌≤◌, arith}
 use Rattle.m5_terms.specs.TypeExpression.{TypeExpression, type_node_count, product, sum, function, list, cell, sham, at}
 
 pub type_some : (A : TypeExpression) → 1 ≤ type_node_count A

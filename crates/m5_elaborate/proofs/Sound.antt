@@ -1,14 +1,13 @@
 -- Where a type is found, the term has it.
-use Rattle.std.proofs.Common.{◌≡◌, ◌≢◌, ◌≤◌, ◌&&◌, ◌⊎◌, inl, inr, ℕ, Bool, true, false, IsTrue, if◌then◌else◌, Option, Some, None, List, [], refl, ap, sym, ◌∙◌, subst, arith}
+use Rattle.std.proofs.Common.{◌≡◌, ◌≢◌, ◌&&◌, inl, inr, ℕ, false, IsTrue, if◌then◌else◌, Option, Some, None, refl, ap, sym, ◌∙◌, subst}
 use Rattle.m5_lex.specs.declared.place.Place.{Place}
 use Rattle.m5_terms.specs.Expression.{Expression}
-use Rattle.m5_terms.specs.Text.{text_byte}
 use Rattle.m5_terms.specs.TypeExpression as types
 use Rattle.m5_terms.specs.TypeExpression.{TypeExpression, unit, bool, int, string, address, product, sum, function, list, cell, sham, mobile, same_type, same_world}
 use Rattle.m5_terms.specs.Primitives.{primitive_world, primitive_type}
 use Rattle.m5_terms.specs.Substitution.{unary_binders, binary_binders, second_binders, third_binders}
 use Rattle.m5_terms.specs.declared.types.World.{World}
-use Rattle.m5_terms.specs.declared.types.World.TheVariants.{Home, Any}
+use Rattle.m5_terms.specs.declared.types.World.TheVariants.{Any}
 use Rattle.m5_terms.specs.declared.types.Primitive.{Primitive}
 use Rattle.m5_terms.specs.declared.form.LeafForm.{LeafForm}
 use Rattle.m5_terms.specs.declared.form.LeafForm.TheVariants as leaf_form
@@ -25,7 +24,7 @@ use Rattle.m5_typing.specs.Rules.{IsSmall, LeafRule, Pick}
 use Rattle.m5_typing.specs.Typing.{Typed, UnaryTyped, BinaryTyped, TernaryTyped, part_context}
 use Rattle.m5_raw.specs.Resolved.{Resolved, leaf, unary, binary, ternary}
 use Rattle.m5_raw.specs.InText.{in_text, leaf_in_text, unary_in_text}
-use Rattle.m5_elaborate.specs.Outcome.{Outcome, found, fault, refused, and_then}
+use Rattle.m5_elaborate.specs.Outcome.{found, refused, and_then}
 use Rattle.m5_elaborate.specs.declared.end.Kind.TheVariants.{WrongWorld}
 use Rattle.m5_elaborate.specs.declared.names.Bound.TheVariants as bound
 use Rattle.m5_elaborate.specs.declared.names.Bound.TheVariants.{Local}
@@ -34,12 +33,12 @@ use Rattle.m5_elaborate.specs.declared.names.Binding.TheVariants.{Nothing, One, 
 use Rattle.m5_elaborate.specs.declared.parts.Inside.{Inside}
 use Rattle.m5_elaborate.specs.declared.arms.Arms.{Arms}
 use Rattle.m5_elaborate.specs.Names.{under}
-use Rattle.m5_elaborate.specs.Parts.{first_of, second_of, content_of, applied, added, stored, injected_left, injected_right, moved_type}
+use Rattle.m5_elaborate.specs.Parts.{moved_type}
 use Rattle.m5_elaborate.specs.Erased.{erased}
 use Rattle.m5_elaborate.specs.Leaves.{is_any, local_type, valid_type, declared_type, extern_type, address_type, leaf_type}
 use Rattle.m5_elaborate.specs.Synthesis.{unary_world, unary_binding, unary_type, addressed, second_part, binary_type, arms, ternary_type}
-use Rattle.m5_elaborate.specs.Checked.{checked, limited}
-use Rattle.m5_elaborate.proofs.Same.{left_true, right_true, both_true, world_same, type_same}
+use Rattle.m5_elaborate.specs.Checked.{checked}
+use Rattle.m5_elaborate.proofs.Same.{left_true, right_true, world_same, type_same}
 use Rattle.m5_elaborate.proofs.Outcomes.{found_is, both, passed, allowed, limits}
 
 pub record IsFunction (A : TypeExpression) : Type 0 where

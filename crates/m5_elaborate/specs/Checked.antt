@@ -11,7 +11,7 @@ use Rattle.m5_typing.specs.Program.{ProgramTerm, bound_at}
 use Rattle.m5_raw.specs.Resolved.{Resolved, leaf, unary, binary, ternary}
 use Rattle.m5_raw.specs.RawTerm.{RawTerm}
 use Rattle.m5_raw.specs.declared.function.Function.{Function}
-use Rattle.m5_elaborate.specs.declared.end.Kind.TheVariants.{Mismatch, TooLarge}
+use Rattle.m5_elaborate.specs.declared.end.Kind.TheVariants.{TooLarge}
 use Rattle.m5_elaborate.specs.Outcome.{Outcome, found, refused, and_then}
 use Rattle.m5_elaborate.specs.Names.{under}
 use Rattle.m5_elaborate.specs.Parts.{if_same}

@@ -1,5 +1,5 @@
 -- The type of a node without parts, one line a form.
-use Rattle.std.specs.Prelude.{ℕ, Bool, if◌then◌else◌, Option, Some, None}
+use Rattle.std.specs.Prelude.{ℕ, Bool, if◌then◌else◌, Option, Some}
 use Rattle.m5_lex.specs.declared.place.Place.{Place}
 use Rattle.m5_terms.specs.TypeExpression.{TypeExpression, unit, bool, int, string, address, list, same_world}
 use Rattle.m5_terms.specs.Primitives.{primitive_world, primitive_type}

@@ -1,5 +1,5 @@
 -- What a check finds, or the first fault.
-use Rattle.std.specs.Prelude.{◌≡◌, ◌≢◌}
+use Rattle.std.specs.Prelude.{◌≡◌, ◌≢◌, Result, Ok, Err}
 use Rattle.m5_lex.specs.declared.place.Place.{Place}
 use Rattle.m5_elaborate.specs.declared.end.Kind.{Kind}
 use Rattle.m5_elaborate.specs.declared.end.TypeEnd.{TypeEnd}
@@ -22,3 +22,8 @@ and_then (fault e) f = fault e
 -- wanting memory may end anything, and else the first fault does
 abbrev pub IsFault : {A : Type 0} → Outcome A → TypeEnd → Type 0
 IsFault o e = e ≢ Memory → o ≡ fault e
+
+-- a call that ends so by its definition: with what is found, or with the first fault
+abbrev pub Ends : {A : Type 0} → Result A TypeEnd → Outcome A → Type 0
+Ends (Ok x) o = o ≡ found x
+Ends (Err e) o = IsFault o e

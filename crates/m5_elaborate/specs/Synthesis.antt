@@ -8,7 +8,7 @@ use Rattle.m5_terms.specs.declared.types.World.TheVariants.{Any}
 use Rattle.m5_terms.specs.declared.form.UnaryForm.{UnaryForm}
 use Rattle.m5_terms.specs.declared.form.UnaryForm.TheVariants.{Fn, Rec, Fst, Snd, StrOf, Div, NewCell, Load, Hold, Sham, Spawn, Inl, Inr, Held}
 use Rattle.m5_terms.specs.declared.form.BinaryForm.{BinaryForm}
-use Rattle.m5_terms.specs.declared.form.BinaryForm.TheVariants.{Call, Pair, Cons, Store, Do, Get, Binary, Val, Put, Leta, Lets}
+use Rattle.m5_terms.specs.declared.form.BinaryForm.TheVariants.{Call, Pair, Cons, Store, Get, Binary, Val, Put, Leta, Lets}
 use Rattle.m5_terms.specs.declared.form.TernaryForm.{TernaryForm}
 use Rattle.m5_terms.specs.declared.form.TernaryForm.TheVariants.{If, CaseSum, CaseList}
 use Rattle.m5_typing.specs.Operators.{operand, outcome}

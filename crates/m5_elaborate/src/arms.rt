@@ -3,7 +3,7 @@
 ghost use Rattle.std.specs.Prelude.{◌≡◌, ◌&&◌, ◌+◌, ◌^◌, ◌<◌, IfErr, IfOk};
 ghost use Rattle.m5_terms.specs.Opened.{viewed_unary};
 ghost use Rattle.m5_terms.specs.TypeExpression.{bool, same_type};
-ghost use Rattle.m5_elaborate.specs.Outcome.{found, IsFault};
+ghost use Rattle.m5_elaborate.specs.Outcome.{Ends};
 ghost use Rattle.m5_elaborate.specs.Names.{part_depth};
 ghost use Rattle.m5_elaborate.specs.Parts.{if_same};
 ghost use Rattle.m5_elaborate.specs.Synthesis.{addressed, arms, get_part, list_arms, opened_hold, opened_sham, put_part, second_part, sum_arms, ternary_type, unary_binding, unary_world};
@@ -80,8 +80,7 @@ fn in_put(
     world: World,
     first: &Ty,
 ) -> Result<Inside, TypeEnd>
-    ensures value { IfOk result (λ i. put_part number place world first.now ≡ found i) }
-    ensures fault { IfErr result (IsFault (put_part number place world first.now)) }
+    ensures { Ends result (put_part number place world first.now) }
 {
     if !is_mobile(first) {
         return Err(TypeEnd::Refused(Kind::NotMobile, place));
@@ -99,8 +98,7 @@ fn in_leta(
     world: World,
     first: &Ty,
 ) -> Result<Inside, TypeEnd>
-    ensures value { IfOk result (λ i. opened_hold number place world first.now ≡ found i) }
-    ensures fault { IfErr result (IsFault (opened_hold number place world first.now)) }
+    ensures { Ends result (opened_hold number place world first.now) }
 {
     match &first.shape {
         Shape::At(ty, at) => {
@@ -123,8 +121,7 @@ fn in_lets(
     world: World,
     first: &Ty,
 ) -> Result<Inside, TypeEnd>
-    ensures value { IfOk result (λ i. opened_sham number place world first.now ≡ found i) }
-    ensures fault { IfErr result (IsFault (opened_sham number place world first.now)) }
+    ensures { Ends result (opened_sham number place world first.now) }
 {
     match &first.shape {
         Shape::Sham(ty) => Ok(Inside {
@@ -136,8 +133,7 @@ fn in_lets(
 }
 
 fn in_get(place: Place, world: World, first: &Ty) -> Result<Inside, TypeEnd>
-    ensures value { IfOk result (λ i. get_part place world first.now ≡ found i) }
-    ensures fault { IfErr result (IsFault (get_part place world first.now)) }
+    ensures { Ends result (get_part place world first.now) }
 {
     if is_at_any(world) {
         return Err(TypeEnd::Refused(Kind::NotGeneric, place));
@@ -164,8 +160,7 @@ pub(crate) fn in_second_part(
     world: World,
     first: &Ty,
 ) -> Result<Inside, TypeEnd>
-    ensures value { IfOk result (λ i. second_part form place world first.now ≡ found i) }
-    ensures fault { IfErr result (IsFault (second_part form place world first.now)) }
+    ensures { Ends result (second_part form place world first.now) }
 {
     match form {
         BinaryForm::Val(number) => Ok(Inside {
@@ -196,8 +191,7 @@ fn in_sum(
     world: World,
     first: &Ty,
 ) -> Result<Arms, TypeEnd>
-    ensures value { IfOk result (λ a. sum_arms left right place world first.now ≡ found a) }
-    ensures fault { IfErr result (IsFault (sum_arms left right place world first.now)) }
+    ensures { Ends result (sum_arms left right place world first.now) }
 {
     match &first.shape {
         Shape::Sum(a, b) => {
@@ -219,8 +213,7 @@ fn in_list(
     world: World,
     first: &Ty,
 ) -> Result<Arms, TypeEnd>
-    ensures value { IfOk result (λ a. list_arms head tail place world first.now ≡ found a) }
-    ensures fault { IfErr result (IsFault (list_arms head tail place world first.now)) }
+    ensures { Ends result (list_arms head tail place world first.now) }
 {
     match &first.shape {
         Shape::List(a) => {
@@ -243,8 +236,7 @@ pub(crate) fn in_arms(
     world: World,
     first: &Ty,
 ) -> Result<Arms, TypeEnd>
-    ensures value { IfOk result (λ a. arms form place world first.now ≡ found a) }
-    ensures fault { IfErr result (IsFault (arms form place world first.now)) }
+    ensures { Ends result (arms form place world first.now) }
 {
     match form {
         TernaryForm::If => Ok(Arms {
@@ -264,8 +256,7 @@ pub(crate) fn of_ternary(
     second: Ty,
     third: &Ty,
 ) -> Result<Ty, TypeEnd>
-    ensures value { IfOk result (λ t. ternary_type form place first.now second third.now ≡ found t) }
-    ensures fault { IfErr result (IsFault (ternary_type form place first.now second third.now)) }
+    ensures { Ends result (ternary_type form place first.now second third.now) }
 {
     let equal = is_same(&second, third);
     match form {

@@ -4,7 +4,7 @@ ghost use Rattle.std.specs.Prelude.{◌≡◌, ◌+◌, ◌<◌, ◌^◌, IfErr,
 ghost use Rattle.m5_raw.specs.Resolved.{unary, binary, ternary, node_count};
 ghost use Rattle.m5_terms.specs.Opened.{viewed_unary};
 ghost use Rattle.m5_terms.specs.declared.form.BinaryForm.TheVariants.{Pair};
-ghost use Rattle.m5_elaborate.specs.Outcome.{found, IsFault};
+ghost use Rattle.m5_elaborate.specs.Outcome.{Ends};
 ghost use Rattle.m5_elaborate.specs.Names.{context, entries, under, IsShallow};
 ghost use Rattle.m5_elaborate.specs.Checked.{checked, signatures};
 
@@ -38,9 +38,8 @@ pub(crate) fn within(
 ) -> Result<Ty, TypeEnd>
     requires shallow { IsShallow depth (entries names.old.items) }
     requires room { depth + node_count node.now < 2 ^ 32 }
-    ensures value { IfOk result (λ t. checked (signatures known.now) (under binding (context depth (entries names.old.items))) world node.now ≡ found t) }
+    ensures ends { Ends result (checked (signatures known.now) (under binding (context depth (entries names.old.items))) world node.now) }
     ensures names { OnOk result (entries names.new.items ≡ entries names.old.items) }
-    ensures fault { IfErr result (IsFault (checked (signatures known.now) (under binding (context depth (entries names.old.items))) world node.now)) }
 {
     let outer = enter(names, depth, binding)?;
     let ty = check(alloc, known, names, depth, world, node)?;
@@ -61,9 +60,8 @@ fn check_unary(
 ) -> Result<Ty, TypeEnd>
     requires shallow { IsShallow depth (entries names.old.items) }
     requires room { depth + node_count (unary place (viewed_unary form) first.now) < 2 ^ 32 }
-    ensures value { IfOk result (λ t. checked (signatures known.now) (context depth (entries names.old.items)) world (unary place (viewed_unary form.entry) first.now) ≡ found t) }
+    ensures ends { Ends result (checked (signatures known.now) (context depth (entries names.old.items)) world (unary place (viewed_unary form.entry) first.now)) }
     ensures names { OnOk result (entries names.new.items ≡ entries names.old.items) }
-    ensures fault { IfErr result (IsFault (checked (signatures known.now) (context depth (entries names.old.items)) world (unary place (viewed_unary form.entry) first.now))) }
 {
     let inside = world_of_part(&form, world);
     let deeper = depth_of_part(&form, depth);
@@ -87,9 +85,8 @@ fn check_binary(
 ) -> Result<Ty, TypeEnd>
     requires shallow { IsShallow depth (entries names.old.items) }
     requires room { depth + node_count (binary place form first.now second.now) < 2 ^ 32 }
-    ensures value { IfOk result (λ t. checked (signatures known.now) (context depth (entries names.old.items)) world (binary place form first.now second.now) ≡ found t) }
+    ensures ends { Ends result (checked (signatures known.now) (context depth (entries names.old.items)) world (binary place form first.now second.now)) }
     ensures names { OnOk result (entries names.new.items ≡ entries names.old.items) }
-    ensures fault { IfErr result (IsFault (checked (signatures known.now) (context depth (entries names.old.items)) world (binary place form first.now second.now))) }
 {
     let first = check(alloc, known, names, depth, world, first)?;
     let inside = in_second_part(alloc, form, place, world, &first)?;
@@ -120,9 +117,8 @@ fn check_pairs(
 ) -> Result<Ty, TypeEnd>
     requires shallow { IsShallow depth (entries names.old.items) }
     requires room { depth + node_count (binary place Pair first.now second.now) < 2 ^ 32 }
-    ensures value { IfOk result (λ t. checked (signatures known.now) (context depth (entries names.old.items)) world (binary place Pair first.now second.now) ≡ found t) }
+    ensures ends { Ends result (checked (signatures known.now) (context depth (entries names.old.items)) world (binary place Pair first.now second.now)) }
     ensures names { OnOk result (entries names.new.items ≡ entries names.old.items) }
-    ensures fault { IfErr result (IsFault (checked (signatures known.now) (context depth (entries names.old.items)) world (binary place Pair first.now second.now))) }
 {
     let mut waiting = Vec::new(alloc);
     let ty = check(alloc, known, names, depth, world, first)?;
@@ -152,9 +148,8 @@ fn check_ternary(
 ) -> Result<Ty, TypeEnd>
     requires shallow { IsShallow depth (entries names.old.items) }
     requires room { depth + node_count (ternary place form first.now second.now third.now) < 2 ^ 32 }
-    ensures value { IfOk result (λ t. checked (signatures known.now) (context depth (entries names.old.items)) world (ternary place form first.now second.now third.now) ≡ found t) }
+    ensures ends { Ends result (checked (signatures known.now) (context depth (entries names.old.items)) world (ternary place form first.now second.now third.now)) }
     ensures names { OnOk result (entries names.new.items ≡ entries names.old.items) }
-    ensures fault { IfErr result (IsFault (checked (signatures known.now) (context depth (entries names.old.items)) world (ternary place form first.now second.now third.now))) }
 {
     let first = check(alloc, known, names, depth, world, first)?;
     let bound = in_arms(alloc, form, place, world, &first)?;
@@ -176,9 +171,8 @@ pub(crate) fn check(
 ) -> Result<Ty, TypeEnd>
     requires shallow { IsShallow depth (entries names.old.items) }
     requires room { depth + node_count node.now < 2 ^ 32 }
-    ensures value { IfOk result (λ t. checked (signatures known.now) (context depth (entries names.old.items)) world node.now ≡ found t) }
+    ensures ends { Ends result (checked (signatures known.now) (context depth (entries names.old.items)) world node.now) }
     ensures names { OnOk result (entries names.new.items ≡ entries names.old.items) }
-    ensures fault { IfErr result (IsFault (checked (signatures known.now) (context depth (entries names.old.items)) world node.now)) }
 {
     let place = node.place;
     match node.open() {

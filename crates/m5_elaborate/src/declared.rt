@@ -1,7 +1,7 @@
 //! Uses of declared functions.
 
 ghost use Rattle.std.specs.Prelude.{◌≡◌, IfErr, IfOk};
-ghost use Rattle.m5_elaborate.specs.Outcome.{found, IsFault};
+ghost use Rattle.m5_elaborate.specs.Outcome.{Ends};
 ghost use Rattle.m5_elaborate.specs.Checked.{signatures};
 ghost use Rattle.m5_elaborate.specs.Leaves.{declared_type};
 
@@ -20,8 +20,7 @@ pub(crate) fn declared(
     place: Place,
     number: u32,
 ) -> Result<Ty, TypeEnd>
-    ensures value { IfOk result (λ t. declared_type place world (signatures known.now number) ≡ found t) }
-    ensures fault { IfErr result (IsFault (declared_type place world (signatures known.now number))) }
+    ensures { Ends result (declared_type place world (signatures known.now number)) }
 {
     match known.get(number as usize) {
         None => Err(TypeEnd::Refused(Kind::WrongWorld, place)),

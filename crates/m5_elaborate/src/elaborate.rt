@@ -3,7 +3,7 @@
 ghost use Rattle.std.specs.Prelude.{◌≡◌, ◌≢◌, ◌<◌, ◌^◌, [], IfErr, IfOk, OnOk};
 ghost use Rattle.m5_raw.specs.Resolved.{node_count};
 ghost use Rattle.m5_raw.specs.RawTerm.{IsRaw};
-ghost use Rattle.m5_elaborate.specs.Outcome.{found, IsFault};
+ghost use Rattle.m5_elaborate.specs.Outcome.{found, Ends, IsFault};
 ghost use Rattle.m5_elaborate.specs.Names.{entries, IsBare};
 ghost use Rattle.m5_elaborate.specs.Checked.{function_checked, main_checked, rest_elaborated, elaborated};
 ghost use Rattle.m5_elaborate.specs.Erased.{erased_program};
@@ -32,9 +32,8 @@ fn check_function(
 ) -> Result<Ty, TypeEnd>
     requires bare { IsBare (entries names.old.items) }
     requires room { node_count function.now.body < 2 ^ 32 }
-    ensures value { IfOk result (λ t. function_checked known.now function.now ≡ found t) }
+    ensures ends { Ends result (function_checked known.now function.now) }
     ensures names { OnOk result (entries names.new.items ≡ entries names.old.items) }
-    ensures fault { IfErr result (IsFault (function_checked known.now function.now)) }
 {
     let ty = function.ty.copy(alloc)?;
     let whole = function_of(alloc, ty, function.result.copy(alloc)?)?;
@@ -71,8 +70,7 @@ fn check_functions(alloc: Global, names: &mut Names, raw: &Raw) -> Result<(), Ty
 /// The type of the main term, which has to be unit.
 fn check_main(alloc: Global, names: &mut Names, raw: &Raw) -> Result<Ty, TypeEnd>
     requires { IsBare (entries names.old.items) }
-    ensures value { IfOk result (λ t. main_checked raw.now ≡ found t) }
-    ensures fault { IfErr result (IsFault (main_checked raw.now)) }
+    ensures { Ends result (main_checked raw.now) }
 {
     let known = raw.functions();
     let ty = check(alloc, known, names, 0, World::Home, raw.main())?;

@@ -1,7 +1,7 @@
 //! What variables are bound to, in a table with an entry for each binder's number.
 
 ghost use Rattle.std.specs.Prelude.{◌≡◌, ◌<◌, ℕ, vec_len, IfErr, IfOk, OnOk};
-ghost use Rattle.m5_elaborate.specs.Outcome.{found, IsFault};
+ghost use Rattle.m5_elaborate.specs.Outcome.{Ends};
 ghost use Rattle.m5_elaborate.specs.Leaves.{local_type, valid_type};
 ghost use Rattle.m5_elaborate.specs.Names.{context, entered, entries, left, put, under};
 
@@ -123,8 +123,7 @@ pub(crate) fn local(
     place: Place,
     number: u32,
 ) -> Result<Ty, TypeEnd>
-    ensures value { IfOk result (λ t. local_type place world (context depth (entries names.now) number) ≡ found t) }
-    ensures fault { IfErr result (IsFault (local_type place world (context depth (entries names.now) number))) }
+    ensures { Ends result (local_type place world (context depth (entries names.now) number)) }
 {
     match names.get(number as usize) {
         Some(
@@ -152,8 +151,7 @@ pub(crate) fn valid(
     place: Place,
     number: u32,
 ) -> Result<Ty, TypeEnd>
-    ensures value { (depth : ℕ) → IfOk result (λ t. valid_type place (context depth (entries names.now) number) ≡ found t) }
-    ensures fault { (depth : ℕ) → IfErr result (IsFault (valid_type place (context depth (entries names.now) number))) }
+    ensures { (depth : ℕ) → Ends result (valid_type place (context depth (entries names.now) number)) }
 {
     match names.get(number as usize) {
         Some(

@@ -2,7 +2,7 @@
 
 ghost use Rattle.std.specs.Prelude.{◌≡◌, ◌++◌, ◌∷◌, [], IfErr, IfOk, OnOk};
 ghost use Rattle.m5_raw.specs.Resolved.{place_of};
-ghost use Rattle.m5_elaborate.specs.Outcome.{found, IsFault};
+ghost use Rattle.m5_elaborate.specs.Outcome.{found, Ends};
 ghost use Rattle.m5_elaborate.specs.Pairs.{nested};
 
 use crate::end::TypeEnd;
@@ -38,8 +38,7 @@ pub(crate) fn wait(waiting: &mut Vec<Waiting>, place: Place, ty: Ty) -> Result<(
 /// The type of nested pairs, the outermost first, round a last part of a type.
 #[tactic(auto, using(crate::proofs::PairSteps::nested_more, crate::proofs::PairSteps::nested_fault))]
 pub(crate) fn pair_up(alloc: Global, mut waiting: Vec<Waiting>, last: Ty) -> Result<Ty, TypeEnd>
-    ensures value { IfOk result (λ t. nested waiting.items (found last) ≡ found t) }
-    ensures fault { IfErr result (IsFault (nested waiting.items (found last))) }
+    ensures { Ends result (nested waiting.items (found last)) }
 {
     let mut whole = last;
     while let Some(pair) = waiting.pop() {

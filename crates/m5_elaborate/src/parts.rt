@@ -1,7 +1,7 @@
 //! The checks on the types of parts.
 
 ghost use Rattle.std.specs.Prelude.{◌≡◌, IfErr, IfOk};
-ghost use Rattle.m5_elaborate.specs.Outcome.{found, IsFault};
+ghost use Rattle.m5_elaborate.specs.Outcome.{Ends};
 ghost use Rattle.m5_elaborate.specs.Parts.{if_same, first_of, second_of, content_of, applied, added, stored, injected_left, injected_right};
 
 use crate::end::{Kind, TypeEnd};
@@ -19,8 +19,7 @@ pub struct Inside {
 
 /// The type, where a check on types holds.
 pub(crate) fn if_same_type(same: bool, place: Place, ty: Ty) -> Result<Ty, TypeEnd>
-    ensures value { IfOk result (λ t. if_same same place ty ≡ found t) }
-    ensures fault { IfErr result (IsFault (if_same same place ty)) }
+    ensures { Ends result (if_same same place ty) }
 {
     if same {
         Ok(ty)
@@ -30,8 +29,7 @@ pub(crate) fn if_same_type(same: bool, place: Place, ty: Ty) -> Result<Ty, TypeE
 }
 
 pub(crate) fn first_of_pair(place: Place, ty: Ty) -> Result<Ty, TypeEnd>
-    ensures value { IfOk result (λ t. first_of place ty ≡ found t) }
-    ensures fault { IfErr result (IsFault (first_of place ty)) }
+    ensures { Ends result (first_of place ty) }
 {
     match ty.into_shape() {
         Shape::Prod(a, _) => Ok(a.into_inner()),
@@ -40,8 +38,7 @@ pub(crate) fn first_of_pair(place: Place, ty: Ty) -> Result<Ty, TypeEnd>
 }
 
 pub(crate) fn second_of_pair(place: Place, ty: Ty) -> Result<Ty, TypeEnd>
-    ensures value { IfOk result (λ t. second_of place ty ≡ found t) }
-    ensures fault { IfErr result (IsFault (second_of place ty)) }
+    ensures { Ends result (second_of place ty) }
 {
     match ty.into_shape() {
         Shape::Prod(_, b) => Ok(b.into_inner()),
@@ -50,8 +47,7 @@ pub(crate) fn second_of_pair(place: Place, ty: Ty) -> Result<Ty, TypeEnd>
 }
 
 pub(crate) fn content_of_cell(place: Place, ty: Ty) -> Result<Ty, TypeEnd>
-    ensures value { IfOk result (λ t. content_of place ty ≡ found t) }
-    ensures fault { IfErr result (IsFault (content_of place ty)) }
+    ensures { Ends result (content_of place ty) }
 {
     match ty.into_shape() {
         Shape::Cell(a) => Ok(a.into_inner()),
@@ -61,8 +57,7 @@ pub(crate) fn content_of_cell(place: Place, ty: Ty) -> Result<Ty, TypeEnd>
 
 /// What a call gives.
 pub(crate) fn call_type(place: Place, function: Ty, argument: &Ty) -> Result<Ty, TypeEnd>
-    ensures value { IfOk result (λ t. applied place function argument.now ≡ found t) }
-    ensures fault { IfErr result (IsFault (applied place function argument.now)) }
+    ensures { Ends result (applied place function argument.now) }
 {
     match function.into_shape() {
         Shape::Fun(a, b) => if_same_type(is_same(a.get(), argument), place, b.into_inner()),
@@ -72,8 +67,7 @@ pub(crate) fn call_type(place: Place, function: Ty, argument: &Ty) -> Result<Ty,
 
 /// The type of a list with an element before it.
 pub(crate) fn cons_type(place: Place, first: &Ty, list: Ty) -> Result<Ty, TypeEnd>
-    ensures value { IfOk result (λ t. added place first.now list ≡ found t) }
-    ensures fault { IfErr result (IsFault (added place first.now list)) }
+    ensures { Ends result (added place first.now list) }
 {
     match &list.shape {
         Shape::List(a) => {
@@ -86,8 +80,7 @@ pub(crate) fn cons_type(place: Place, first: &Ty, list: Ty) -> Result<Ty, TypeEn
 
 /// Unit, where a value may be put into a cell.
 pub(crate) fn store_type(place: Place, cell: &Ty, value: &Ty) -> Result<Ty, TypeEnd>
-    ensures value { IfOk result (λ t. stored place cell.now value.now ≡ found t) }
-    ensures fault { IfErr result (IsFault (stored place cell.now value.now)) }
+    ensures { Ends result (stored place cell.now value.now) }
 {
     match &cell.shape {
         Shape::Cell(a) => if_same_type(is_same(a.get(), value), place, Ty::new(Shape::Unit)),
@@ -97,8 +90,7 @@ pub(crate) fn store_type(place: Place, cell: &Ty, value: &Ty) -> Result<Ty, Type
 
 /// The written sum, where a value is in its first part.
 pub(crate) fn left_type(alloc: Global, place: Place, written: &Ty, part: &Ty) -> Result<Ty, TypeEnd>
-    ensures value { IfOk result (λ t. injected_left place written.now part.now ≡ found t) }
-    ensures fault { IfErr result (IsFault (injected_left place written.now part.now)) }
+    ensures { Ends result (injected_left place written.now part.now) }
 {
     match &written.shape {
         Shape::Sum(a, _) => if_same_type(is_same(part, a.get()), place, written.copy(alloc)?),
@@ -113,8 +105,7 @@ pub(crate) fn right_type(
     written: &Ty,
     part: &Ty,
 ) -> Result<Ty, TypeEnd>
-    ensures value { IfOk result (λ t. injected_right place written.now part.now ≡ found t) }
-    ensures fault { IfErr result (IsFault (injected_right place written.now part.now)) }
+    ensures { Ends result (injected_right place written.now part.now) }
 {
     match &written.shape {
         Shape::Sum(_, b) => if_same_type(is_same(part, b.get()), place, written.copy(alloc)?),

@@ -2,7 +2,7 @@
 
 ghost use Rattle.std.specs.Prelude.{◌≡◌, ◌+◌, ◌<◌, IfErr, IfOk, MatchOption};
 ghost use Rattle.m5_terms.specs.TypeExpression.{type_node_count};
-ghost use Rattle.m5_elaborate.specs.Outcome.{found, IsFault};
+ghost use Rattle.m5_elaborate.specs.Outcome.{Ends};
 ghost use Rattle.m5_elaborate.specs.Checked.{limited_type};
 
 use crate::end::{Kind, TypeEnd};
@@ -39,8 +39,7 @@ fn room_after(ty: &Ty, room: u32) -> Option<u32>
 
 /// The type itself, if it is not too large for the node at this place.
 pub(crate) fn limited(place: Place, ty: Ty) -> Result<Ty, TypeEnd>
-    ensures value { IfOk result (λ t. limited_type place ty ≡ found t) }
-    ensures fault { IfErr result (IsFault (limited_type place ty)) }
+    ensures { Ends result (limited_type place ty) }
 {
     match room_after(&ty, LIMIT) {
         None => Err(TypeEnd::Refused(Kind::TooLarge, place)),

@@ -6,7 +6,7 @@ ghost use Rattle.m5_terms.specs.TypeExpression.{int, unit, product, sum, functio
 ghost use Rattle.m5_typing.specs.Operators.{operand, outcome};
 ghost use Rattle.m5_typing.specs.Value.{is_value_form};
 ghost use Rattle.m5_elaborate.specs.Erased.{erased};
-ghost use Rattle.m5_elaborate.specs.Outcome.{found, IsFault};
+ghost use Rattle.m5_elaborate.specs.Outcome.{Ends};
 ghost use Rattle.m5_elaborate.specs.Parts.{if_same, hold_type, sham_type, moved_type};
 ghost use Rattle.m5_elaborate.specs.Names.{context, entries};
 ghost use Rattle.m5_elaborate.specs.Checked.{signatures};
@@ -73,8 +73,7 @@ fn sham_of(alloc: Global, ty: Ty) -> Result<Ty, AllocError>
 }
 
 fn of_extern(alloc: Global, place: Place, world: World, prim: Prim) -> Result<Ty, TypeEnd>
-    ensures value { IfOk result (λ t. extern_type place world prim ≡ found t) }
-    ensures fault { IfErr result (IsFault (extern_type place world prim)) }
+    ensures { Ends result (extern_type place world prim) }
 {
     if is_at_any(world) {
         return Err(TypeEnd::Refused(Kind::NotGeneric, place));
@@ -87,8 +86,7 @@ fn of_extern(alloc: Global, place: Place, world: World, prim: Prim) -> Result<Ty
 }
 
 fn of_address(place: Place, world: World) -> Result<Ty, TypeEnd>
-    ensures value { IfOk result (λ t. address_type place world ≡ found t) }
-    ensures fault { IfErr result (IsFault (address_type place world)) }
+    ensures { Ends result (address_type place world) }
 {
     if is_at_any(world) {
         Err(TypeEnd::Refused(Kind::NotGeneric, place))
@@ -107,8 +105,7 @@ pub(crate) fn of_leaf(
     place: Place,
     form: LeafView<'_>,
 ) -> Result<Ty, TypeEnd>
-    ensures value { IfOk result (λ t. leaf_type (signatures known.now) (context depth (entries names.now)) world place (viewed_leaf form.entry) ≡ found t) }
-    ensures fault { IfErr result (IsFault (leaf_type (signatures known.now) (context depth (entries names.now)) world place (viewed_leaf form.entry))) }
+    ensures { Ends result (leaf_type (signatures known.now) (context depth (entries names.now)) world place (viewed_leaf form.entry)) }
 {
     match form {
         LeafView::Var(number) => local(alloc, names, depth, world, place, number),
@@ -142,8 +139,7 @@ fn quotient(alloc: Global) -> Result<Ty, AllocError>
 }
 
 fn of_rec(alloc: Global, place: Place, ty: &Ty, codomain: &Ty, part: Ty) -> Result<Ty, TypeEnd>
-    ensures value { IfOk result (λ t. if_same (same_type part codomain.now) place (function ty.now codomain.now) ≡ found t) }
-    ensures fault { IfErr result (IsFault (if_same (same_type part codomain.now) place (function ty.now codomain.now))) }
+    ensures { Ends result (if_same (same_type part codomain.now) place (function ty.now codomain.now)) }
 {
     let same = is_same(&part, codomain);
     let whole = function_of(alloc, ty.copy(alloc)?, part)?;
@@ -151,16 +147,14 @@ fn of_rec(alloc: Global, place: Place, ty: &Ty, codomain: &Ty, part: Ty) -> Resu
 }
 
 fn of_div(alloc: Global, place: Place, part: &Ty) -> Result<Ty, TypeEnd>
-    ensures value { IfOk result (λ t. if_same (same_type part.now (product int int)) place (sum unit int) ≡ found t) }
-    ensures fault { IfErr result (IsFault (if_same (same_type part.now (product int int)) place (sum unit int))) }
+    ensures { Ends result (if_same (same_type part.now (product int int)) place (sum unit int)) }
 {
     let wanted = pair_of_int(alloc)?;
     if_same_type(is_same(part, &wanted), place, quotient(alloc)?)
 }
 
 fn of_hold(alloc: Global, place: Place, world: World, part: Ty) -> Result<Ty, TypeEnd>
-    ensures value { IfOk result (λ t. hold_type place world part ≡ found t) }
-    ensures fault { IfErr result (IsFault (hold_type place world part)) }
+    ensures { Ends result (hold_type place world part) }
 {
     if is_at_any(world) {
         Err(TypeEnd::Refused(Kind::NotGeneric, place))
@@ -170,8 +164,7 @@ fn of_hold(alloc: Global, place: Place, world: World, part: Ty) -> Result<Ty, Ty
 }
 
 fn of_sham(alloc: Global, place: Place, value_form: bool, part: Ty) -> Result<Ty, TypeEnd>
-    ensures value { IfOk result (λ t. sham_type place value_form part ≡ found t) }
-    ensures fault { IfErr result (IsFault (sham_type place value_form part)) }
+    ensures { Ends result (sham_type place value_form part) }
 {
     if value_form {
         Ok(sham_of(alloc, part)?)
@@ -189,8 +182,7 @@ pub(crate) fn of_unary(
     first: &Node,
     part: Ty,
 ) -> Result<Ty, TypeEnd>
-    ensures value { IfOk result (λ t. unary_type (viewed_unary form.entry) place world (is_value_form (erased first.now)) part ≡ found t) }
-    ensures fault { IfErr result (IsFault (unary_type (viewed_unary form.entry) place world (is_value_form (erased first.now)) part)) }
+    ensures { Ends result (unary_type (viewed_unary form.entry) place world (is_value_form (erased first.now)) part) }
 {
     match form {
         UnaryView::Fn(_, ty) => Ok(function_of(alloc, ty.copy(alloc)?, part)?),
@@ -240,8 +232,7 @@ fn outcome_type(op: Op) -> Ty
 }
 
 fn of_operator(op: Op, place: Place, first: &Ty, second: &Ty) -> Result<Ty, TypeEnd>
-    ensures value { IfOk result (λ t. if_same (same_type first.now (operand op) && same_type second.now (operand op)) place (outcome op) ≡ found t) }
-    ensures fault { IfErr result (IsFault (if_same (same_type first.now (operand op) && same_type second.now (operand op)) place (outcome op))) }
+    ensures { Ends result (if_same (same_type first.now (operand op) && same_type second.now (operand op)) place (outcome op)) }
 {
     let wanted = operand_type(op);
     let same = is_same(first, &wanted) && is_same(second, &wanted);
@@ -249,8 +240,7 @@ fn of_operator(op: Op, place: Place, first: &Ty, second: &Ty) -> Result<Ty, Type
 }
 
 fn of_get(place: Place, second: Ty) -> Result<Ty, TypeEnd>
-    ensures value { IfOk result (λ t. moved_type place second ≡ found t) }
-    ensures fault { IfErr result (IsFault (moved_type place second)) }
+    ensures { Ends result (moved_type place second) }
 {
     if is_mobile(&second) {
         Ok(second)
@@ -267,8 +257,7 @@ pub(crate) fn of_binary(
     first: Ty,
     second: Ty,
 ) -> Result<Ty, TypeEnd>
-    ensures value { IfOk result (λ t. binary_type form place first second ≡ found t) }
-    ensures fault { IfErr result (IsFault (binary_type form place first second)) }
+    ensures { Ends result (binary_type form place first second) }
 {
     match form {
         BinaryForm::Call => call_type(place, first, &second),

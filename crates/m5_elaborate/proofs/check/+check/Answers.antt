@@ -21,15 +21,15 @@ pub check_ternary-within-requires-2 : goal.check_ternary-within-requires-2
 check_ternary-within-requires-2 t c =
     (search rules, (shallow_same c.args.depth _ _ c.in_ok-second.ensures.names (shallow_same c.args.depth _ _ c.in_ok-first.ensures.names c.requires.shallow), omega arith))
 
-pub check_pairs-returns-in_err-ty-2-clause-fault : goal.check_pairs-returns-in_err-ty-2-clause-fault
-check_pairs-returns-in_err-ty-2-clause-fault t c =
+pub check_pairs-returns-in_err-ty-2-clause-ends : goal.check_pairs-returns-in_err-ty-2-clause-ends
+check_pairs-returns-in_err-ty-2-clause-ends t c =
     let F = signatures c.args.known.now in
     let G = context c.args.depth (entries c.args.names.now.items) in
     let arm = c.in-Binary-Pair-default-default in
     let q : binary (place_of c.loop-part.rest.now) Pair arm.part.now arm.later.now ≡ c.loop-part.rest.now =
     ap (λ g. binary (place_of c.loop-part.rest.now) g arm.part.now arm.later.now) (sym arm.field-0-is) ∙ arm.ensures.value in
     let f : IsFault (checked F G c.args.world arm.part.now) c.in_err-ty-2.field-0.0 =
-    subst (λ s. IsFault (checked F (context c.args.depth s) c.args.world arm.part.now) c.in_err-ty-2.field-0.0) c.loop-part.invariant.names c.in_err-ty-2.ensures.fault in
+    subst (λ s. IsFault (checked F (context c.args.depth s) c.args.world arm.part.now) c.in_err-ty-2.field-0.0) c.loop-part.invariant.names c.in_err-ty-2.ensures.ends in
     let k = nests_part_fault F G c.args.world (place_of c.loop-part.rest.now) arm.part.now arm.later.now c.loop-part.rest.now c.in_err-ty-2.field-0.0
     (checked F G c.args.world (binary c.args.place Pair c.args.first.now c.args.second.now)) c.loop-part.waiting.items c.loop-part.invariant.whole q f in
     search rules
@@ -42,7 +42,7 @@ check_pairs-loop-part-preserved t c =
     let q : binary (place_of c.loop-part.rest.now) Pair arm.part.now arm.later.now ≡ c.loop-part.rest.now =
     ap (λ g. binary (place_of c.loop-part.rest.now) g arm.part.now arm.later.now) (sym arm.field-0-is) ∙ arm.ensures.value in
     let e : checked F G c.args.world arm.part.now ≡ found c.in_ok-ty-2.ty =
-    subst (λ s. checked F (context c.args.depth s) c.args.world arm.part.now ≡ found c.in_ok-ty-2.ty) c.loop-part.invariant.names c.in_ok-ty-2.ensures.value in
+    subst (λ s. checked F (context c.args.depth s) c.args.world arm.part.now ≡ found c.in_ok-ty-2.ty) c.loop-part.invariant.names c.in_ok-ty-2.ensures.ends in
     record {
       names = c.in_ok-ty-2.ensures.names ∙ c.loop-part.invariant.names;
       inner = omega (arith, arm.ensures.smaller, c.loop-part.invariant.inner);
@@ -51,12 +51,12 @@ check_pairs-loop-part-preserved t c =
           c.in_ok-wait-2.ensures c.place_of_node.ensures;
     }
 
-pub check_pairs-returns-in_err-last-clause-fault : goal.check_pairs-returns-in_err-last-clause-fault
-check_pairs-returns-in_err-last-clause-fault t c =
+pub check_pairs-returns-in_err-last-clause-ends : goal.check_pairs-returns-in_err-last-clause-ends
+check_pairs-returns-in_err-last-clause-ends t c =
     let F = signatures c.args.known.now in
     let G = context c.args.depth (entries c.args.names.now.items) in
     let f : IsFault (checked F G c.args.world c.loop-part.rest.now) c.in_err-last.field-0.0 =
-    subst (λ s. IsFault (checked F (context c.args.depth s) c.args.world c.loop-part.rest.now) c.in_err-last.field-0.0) c.loop-part.invariant.names c.in_err-last.ensures.fault in
+    subst (λ s. IsFault (checked F (context c.args.depth s) c.args.world c.loop-part.rest.now) c.in_err-last.field-0.0) c.loop-part.invariant.names c.in_err-last.ensures.ends in
     let k = nests_fault (checked F G c.args.world (binary c.args.place Pair c.args.first.now c.args.second.now)) (checked F G c.args.world c.loop-part.rest.now)
     c.in_err-last.field-0.0 c.loop-part.waiting.items c.loop-part.invariant.whole f in
     search rules

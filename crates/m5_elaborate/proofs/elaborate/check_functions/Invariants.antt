@@ -1,4 +1,4 @@
-use Rattle.std.proofs.Common.{◌≡◌, take, drop, List}
+use Rattle.std.proofs.Common.{◌≡◌, take, drop}
 use Rattle.m5_elaborate.specs.Names.{entries}
 use Rattle.m5_elaborate.specs.Checked.{elaborated, rest_elaborated}
 use Rattle.m5_elaborate.proofs.elaborate.check_functions.Given as goal

@@ -1,4 +1,4 @@
-use Rattle.std.proofs.Common.{◌≤◌, arith, ap, subst, sym}
+use Rattle.std.proofs.Common.{arith, ap}
 use Rattle.m5_raw.specs.Resolved.{node_count}
 use Rattle.m5_elaborate.proofs.Erasing.{main_bounded}
 use Rattle.m5_elaborate.proofs.elaborate.check_main.Goals as goal

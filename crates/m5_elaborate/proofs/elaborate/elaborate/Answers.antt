@@ -1,4 +1,4 @@
-use Rattle.std.proofs.Common.{rules, ◌∙◌, ap, arith}
+use Rattle.std.proofs.Common.{rules, ◌∙◌, ap}
 use Rattle.m5_elaborate.specs.Erased.{erased, erased_functions}
 use Rattle.m5_elaborate.proofs.Tables.{bare_same, bare_table}
 use Rattle.m5_elaborate.proofs.Programs.{made_typed, untyped_result}
@@ -9,7 +9,7 @@ check_main-requires c = bare_same _ _ c.in_ok-check_functions.ensures.names (bar
 
 pub make-requires : goal.make-requires
 make-requires c =
-    made_typed c.args.raw.now _ _ _ c.functions.ensures.limits c.in_ok-check_functions.ensures.value c.in_ok-check_main.ensures.value
+    made_typed c.args.raw.now _ _ _ c.functions.ensures.limits c.in_ok-check_functions.ensures.value c.in_ok-check_main.ensures
     (c.in_ok-items.ensures ∙ ap erased_functions c.functions.ensures.value) (c.in_ok-main.ensures ∙ ap erased c.main.ensures)
 
 pub returns-in_err-check_functions-clause-untyped : goal.returns-in_err-check_functions-clause-untyped

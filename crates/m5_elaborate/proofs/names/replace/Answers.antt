@@ -1,4 +1,4 @@
-use Rattle.std.proofs.Common.{◌≡◌, ◌<◌, ◌∙◌, Option, Some, None, length, slice_set, ap, arith}
+use Rattle.std.proofs.Common.{◌<◌, ◌∙◌, None, length, slice_set, ap, arith}
 use Rattle.m5_elaborate.specs.Names.{entries, put}
 use Rattle.m5_elaborate.proofs.Tables.{entries_set, same_default}
 use Rattle.m5_elaborate.proofs.names.replace.Goals as goal
