@@ -7,7 +7,7 @@ use Rattle.m5_meaning.specs.Step.{SiteNext, site_next}
 use Rattle.m5_script.specs.Scenario.{Scenario}
 use Rattle.m5_reference.specs.FirstMoment.{IsFree, ComesFree}
 
-same-goes : (a b : Site) (n : SiteNext) → n ≡ goes a → n ≡ goes b → a ≡ b
+pub same-goes : (a b : Site) (n : SiteNext) → n ≡ goes a → n ≡ goes b → a ≡ b
 same-goes a b n e f = let k : goes a ≡ goes b = sym e ∙ f in cc
 
 -- local steps lead to one state

@@ -1,3 +1,10 @@
 pub mod Freely
 pub mod Looks
 pub mod Arriving
+pub mod Opened
+pub mod Onward
+pub mod Asking
+pub mod Silence
+pub mod Turns
+pub mod ClosedBoard
+pub mod ClosedTurns

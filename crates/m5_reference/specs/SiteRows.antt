@@ -1,0 +1,21 @@
+-- The sites of all sessions, of which those that have stopped are gone.
+use Rattle.std.specs.Prelude.{ℕ, zero, suc, List, Option, Some, None, slice_get}
+use Rattle.m5_terms.specs.declared.types.World.{World}
+use Rattle.m5_terms.specs.declared.types.World.TheVariants.{Home, Server, Any}
+use Rattle.m5_meaning.specs.Site.{Site}
+use Rattle.m5_reference.specs.declared.sites.SessionSites.{SessionSites}
+
+-- no site is at any
+abbrev pub site_in : SessionSites → World → Option Site
+site_in r Home = r.home
+site_in r Server = r.server
+site_in r Any = None
+
+abbrev pub site_of_row : Option SessionSites → World → Option Site
+site_of_row None w = None
+site_of_row (Some r) w = site_in r w
+
+-- sessions are numbered from 1
+abbrev pub site_at : List SessionSites → ℕ → World → Option Site
+site_at rows zero w = None
+site_at rows (suc s) w = site_of_row (slice_get rows s) w

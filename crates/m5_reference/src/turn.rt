@@ -1,0 +1,128 @@
+//! One turn of a site.
+
+ghost use Rattle.std.specs.Prelude.{◌≡◌, ◌≢◌, ◌<◌, ◌^◌, ◌↔◌, length, IfOk, OnOk, IsTrue, Some};
+ghost use Rattle.m5_terms.specs.declared.types.World.TheVariants.{Any};
+ghost use Rattle.m5_meaning.specs.Asks as asks;
+ghost use Rattle.m5_script.specs.Scenario.{Scenario};
+ghost use Rattle.m5_network.specs.Board.{answer_of};
+ghost use Rattle.m5_network.specs.Run.{Network};
+ghost use Rattle.m5_source_site.specs.ClosedSite.{HasRoom, IsClosedSite, IsClosedProgram};
+ghost use Rattle.m5_source_site.specs.Waits.{query_of, reply_of, resumed};
+ghost use Rattle.m5_board.specs.BoardLists.{board_of, IsSession};
+ghost use Rattle.m5_reference.specs.Moments.{HasLimits};
+ghost use Rattle.m5_reference.specs.Ahead.{IsAhead, kept};
+ghost use Rattle.m5_reference.specs.Turning.{IsTurned, IsAskTurned};
+ghost use Rattle.m5_reference.specs.ClosedTurn.{IsClosedBoard, IsClosedTurned};
+
+use crate::moment::{Limits, Moment, next_moment};
+use m5_board::board::{Answered, BoardRow};
+use m5_script::items::SiteName;
+use m5_source_site::query::{SiteQuery, SiteReply};
+use m5_source_site::resume::Waiting;
+use m5_source_site::rules::Rules;
+use m5_source_site::site::Site;
+use m5_terms::ask::Act;
+use m5_terms::types::World;
+use std::alloc::{AllocError, Global};
+
+/// A deed, with the site after it unless it has stopped and with what the history shows; nothing
+/// found, with the site that waits; or that the meaning has no way to go on.
+#[derive(Drop)]
+pub enum Turned {
+    Acts(Option<Site>, Act),
+    Rests(Site),
+    Wrong,
+}
+
+/// Memory is wanting where a site's numbers are too large to count on from, since no site that
+/// memory holds comes so far.
+fn check_room(site: &Site) -> Result<(), AllocError>
+    ensures { OnOk result (HasRoom site.now) }
+{
+    const ROOM: u64 = 1 << 62;
+    if site.steps() < ROOM && site.weight() < ROOM {
+        Ok(())
+    } else {
+        Err(AllocError)
+    }
+}
+
+fn is_nothing(reply: &SiteReply) -> bool
+    ensures { IsTrue result ↔ (reply_of reply.now ≡ asks.nothing) }
+{
+    matches!(reply, SiteReply::Nothing)
+}
+
+/// The site, unless it has stopped.
+fn keep(site: Site) -> Option<Site>
+    ensures { result ≡ kept site }
+{
+    if site.has_stopped() { None } else { Some(site) }
+}
+
+/// What the site does with the answer, if it is one to its ask.
+fn resume(
+    alloc: Global,
+    rules: &Rules<'_>,
+    here: World,
+    waiting: Waiting,
+    reply: SiteReply,
+) -> Result<Option<Site>, AllocError>
+    ensures { IfOk result (λ o. o ≡ resumed rules.now here waiting.site waiting.wait (reply_of reply)) }
+{
+    check_room(&waiting.site)?;
+    waiting.resume(alloc, rules, here, reply)
+}
+
+/// The turn of a site that asks.
+fn answer_turn(
+    alloc: Global,
+    rules: &Rules<'_>,
+    board: &mut BoardRow,
+    name: SiteName,
+    query: SiteQuery,
+    waiting: Waiting,
+) -> Result<Turned, AllocError>
+    requires session { IsSession name.session board.old.desks }
+    requires world { name.world ≢ Any }
+    ensures board { let x = answer_of (board_of board.old) name.session name.world (query_of query) in IfOk result (λ t. board_of board.new ≡ x.board) }
+    ensures turned { let x = answer_of (board_of board.old) name.session name.world (query_of query) in IfOk result (IsAskTurned waiting.site (query_of query) (resumed rules.now name.world waiting.site waiting.wait) x) }
+    ensures count { length board.new.desks ≡ length board.old.desks }
+{
+    let Answered { reply, act } = board.answer(alloc, name.session, name.world, query)?;
+    if is_nothing(&reply) {
+        return Ok(Turned::Rests(waiting.site));
+    }
+    match resume(alloc, rules, name.world, waiting, reply)? {
+        Some(site) => Ok(Turned::Acts(keep(site), act)),
+        None => Ok(Turned::Wrong),
+    }
+}
+
+/// One turn of a site by its next moment. The site may be ahead of that of the network by local
+/// steps before which no stop is licensed.
+pub fn turn(
+    alloc: Global,
+    rules: &Rules<'_>,
+    limits: Limits,
+    board: &mut BoardRow,
+    name: SiteName,
+    site: Site,
+) -> Result<Turned, AllocError>
+    requires steps { limits.steps < 2 ^ 62 }
+    requires region { limits.region < 2 ^ 62 }
+    requires closed { IsClosedSite site }
+    requires program { IsClosedProgram rules.now }
+    requires session { IsSession name.session board.old.desks }
+    requires world { name.world ≢ Any }
+    ensures turned { (S : Scenario) (N : Network) → HasLimits S limits → board_of board.old ≡ N.board → IsAhead rules.now S name.world (N.site name.session name.world) (Some site) → IfOk result (IsTurned rules.now S N name.session name.world board.new) }
+    ensures closed { IsClosedBoard (board_of board.old) → IfOk result IsClosedTurned }
+    ensures closed_board { IsClosedBoard (board_of board.old) → IfOk result (λ t. IsClosedBoard (board_of board.new)) }
+    ensures count { length board.new.desks ≡ length board.old.desks }
+{
+    match next_moment(alloc, rules, limits, name.world, site)? {
+        Moment::Stops(cause) => Ok(Turned::Acts(None, Act::Stop(cause))),
+        Moment::Asks(query, waiting) => answer_turn(alloc, rules, board, name, query, waiting),
+        Moment::Wrong => Ok(Turned::Wrong),
+    }
+}
