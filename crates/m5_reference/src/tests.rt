@@ -1,18 +1,16 @@
-//! Where a site with one thread, which has two steps to make, is stopped, and what its turns make of a script's opening.
+//! Where a site with one thread, which has two steps to make, is stopped, and what a script opens.
 
 ghost use Rattle.std.specs.Prelude.{◌<◌, ◌^◌, IfOk};
 ghost use Rattle.m5_source_site.specs.ClosedSite.{IsClosedSite, IsClosedProgram};
 
 use crate::moment::{Limits, Moment, next_moment};
 use crate::opening::{open_board, open_sites};
-use crate::turn::{Turned, turn};
-use m5_script::items::SiteName;
 use m5_script::read::read_script;
 use m5_source_site::queue::Queue;
 use m5_source_site::rules::Rules;
 use m5_source_site::site::Site;
 use m5_source_site::thread::SiteThread;
-use m5_terms::ask::{Act, Cause};
+use m5_terms::ask::Cause;
 use m5_terms::form::LeafForm;
 use m5_terms::listed::Listed;
 use m5_terms::node::Node;
@@ -70,49 +68,13 @@ event 1 \"send\" \"hi\"
 raw 1 server \"4d4c35\"
 ";
 
-fn no_thread(alloc: Global) -> Site
-    ensures { IsClosedSite result }
-{
-    Site::opening(alloc, Queue::make(alloc))
-}
-
-/// A number for what the turn made.
-fn number_of_turn(turned: &Turned) -> u32 {
-    match turned {
-        Turned::Acts(_, Act::Event(_, _)) => 1,
-        Turned::Acts(_, Act::Refuse) => 2,
-        Turned::Acts(_, _) => 3,
-        Turned::Rests(_) => 4,
-        Turned::Wrong => 5,
-    }
-}
-
 #[test]
-fn takes_turns_from_the_opening(rt: HostRuntime) -> Result<(), Fail> {
+fn opens_each_session(rt: HostRuntime) -> Result<(), Fail> {
     let alloc = rt.alloc();
     let program = Program::make(Listed::make(alloc), Node::leaf(LeafForm::Unit));
     let rules = Rules::of(&program);
-    let limits = Limits {
-        steps: 100,
-        region: 1_000,
-    };
     let script = read_script(alloc, SCRIPT)?;
     assert_eq!(rt; open_sites(alloc, &rules, script.sessions)?.len(), 2);
-    let mut board = open_board(alloc, &script)?;
-    assert_eq!(rt; board.session_count(), 2);
-    let home = SiteName {
-        session: 1,
-        world: World::Home,
-    };
-    let server = SiteName {
-        session: 1,
-        world: World::Server,
-    };
-    let first = turn(alloc, &rules, limits, &mut board, home, one_thread(alloc)?)?;
-    assert_eq!(rt; number_of_turn(&first), 1);
-    let second = turn(alloc, &rules, limits, &mut board, server, no_thread(alloc))?;
-    assert_eq!(rt; number_of_turn(&second), 2);
-    let third = turn(alloc, &rules, limits, &mut board, server, no_thread(alloc))?;
-    assert_eq!(rt; number_of_turn(&third), 4);
+    assert_eq!(rt; open_board(alloc, &script)?.session_count(), 2);
     Ok(())
 }
