@@ -4,10 +4,7 @@
 # nodes times the size of their types, and the largest is to take under two seconds and under 512 MiB.
 set -u
 cd "$(dirname "$0")/.." || exit 1
-program=crates/ml5/out/ml5
-[ -x "$program" ] || { echo "bench: $program is not built: run rt ci first"; exit 1; }
-folder=$(mktemp -d)
-trap 'rm -rf "$folder"' EXIT
+. bench/measure.sh
 
 # A program of a shape and of about so many nodes.
 input() {
@@ -55,25 +52,15 @@ input() {
   }'
 }
 
-# The median of the seconds of five runs.
-measure() {
-  for _ in 1 2 3 4 5; do
-    bash -c 'TIMEFORMAT=%R; time "$0" check < "$1" > "$2"' "$program" "$1" "$folder/answer" 2>&1
-  done | sort -n | sed -n 3p
-}
-
 printf '%-12s %8s %8s %9s %10s %7s  %s\n' shape nodes bytes seconds 'peak KiB' growth answer
 for shape in 'one let' functions 'large types' 'case chains'; do
+  for nodes in 3900 7800 15600; do input "$shape" "$nodes" > "$folder/$nodes"; done
   last=0
+  least check "$folder/3900" "$folder/7800" "$folder/15600" > "$folder/seconds"
   for nodes in 3900 7800 15600; do
-    input "$shape" "$nodes" > "$folder/input"
-    bytes=$(wc -c < "$folder/input")
-    seconds=$(measure "$folder/input")
-    peak=$(python3 -c 'import resource, subprocess, sys
-subprocess.run([sys.argv[1], "check"], stdin=open(sys.argv[2]), stdout=subprocess.DEVNULL)
-print(resource.getrusage(resource.RUSAGE_CHILDREN).ru_maxrss)' "$program" "$folder/input" 2>/dev/null || echo -)
-    growth=$(awk -v a="$seconds" -v b="$last" 'BEGIN { if (b > 0) printf "%.2f", a / b; else print "-" }')
-    printf '%-12s %8s %8s %9s %10s %7s  %s\n' "$shape" "$nodes" "$bytes" "$seconds" "$peak" "$growth" "$(head -n 1 "$folder/answer")"
+    read -r seconds <&3
+    printf '%-12s %8s %8s %9s %10s %7s  %s\n' "$shape" "$nodes" "$(wc -c < "$folder/$nodes")" "$seconds" \
+      "$(peak check "$folder/$nodes")" "$(growth "$seconds" "$last")" "$(answer check "$folder/$nodes")"
     last=$seconds
-  done
+  done 3< "$folder/seconds"
 done

@@ -4,10 +4,7 @@
 # under a second and under 64 MiB.
 set -u
 cd "$(dirname "$0")/.." || exit 1
-program=crates/ml5/out/ml5
-[ -x "$program" ] || { echo "bench: $program is not built: run rt ci first"; exit 1; }
-folder=$(mktemp -d)
-trap 'rm -rf "$folder"' EXIT
+. bench/measure.sh
 
 # A program of about so many KiB: nested blocks of declarations that say and join texts.
 input() {
@@ -33,24 +30,13 @@ input() {
   }'
 }
 
-# Seconds and peak KiB of one run, over the median of five.
-measure() {
-  for _ in 1 2 3 4 5; do
-    /usr/bin/env bash -c 'TIMEFORMAT=%R; time "$0" run < "$1" > "$2"' "$program" "$1" "$folder/trace" 2>&1
-  done | sort -n | sed -n 3p
-}
-
 printf '%10s %10s %12s %8s\n' bytes seconds 'peak KiB' growth
+for size in 64 128 256; do input "$size" > "$folder/$size"; done
 last=0
+least run "$folder/64" "$folder/128" "$folder/256" > "$folder/seconds"
 for size in 64 128 256; do
-  input "$size" > "$folder/input"
-  bytes=$(wc -c < "$folder/input")
-  seconds=$(measure "$folder/input")
-  peak=$(python3 -c 'import resource, subprocess, sys
-subprocess.run([sys.argv[1], "run"], stdin=open(sys.argv[2]), stdout=subprocess.DEVNULL)
-print(resource.getrusage(resource.RUSAGE_CHILDREN).ru_maxrss)' "$program" "$folder/input" 2>/dev/null || echo -)
-  growth=$(awk -v a="$seconds" -v b="$last" 'BEGIN { if (b > 0) printf "%.2f", a / b; else print "-" }')
-  printf '%10s %10s %12s %8s\n' "$bytes" "$seconds" "$peak" "$growth"
+  read -r seconds <&3
+  printf '%10s %10s %12s %8s\n' "$(wc -c < "$folder/$size")" "$seconds" "$(peak run "$folder/$size")" "$(growth "$seconds" "$last")"
   last=$seconds
-done
-tail -n 1 "$folder/trace"
+done 3< "$folder/seconds"
+"$program" run < "$folder/256" | tail -n 1

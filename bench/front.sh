@@ -5,10 +5,7 @@
 # answered: the program's own line, since most of these are read and not run.
 set -u
 cd "$(dirname "$0")/.." || exit 1
-program=crates/ml5/out/ml5
-[ -x "$program" ] || { echo "bench: $program is not built: run rt ci first"; exit 1; }
-folder=$(mktemp -d)
-trap 'rm -rf "$folder"' EXIT
+. bench/measure.sh
 
 # A text of a shape and of about so many bytes.
 input() {
@@ -56,25 +53,15 @@ input() {
   }'
 }
 
-# The median of the seconds of five runs.
-measure() {
-  for _ in 1 2 3 4 5; do
-    bash -c 'TIMEFORMAT=%R; time "$0" run < "$1" > "$2"' "$program" "$1" "$folder/answer" 2>&1
-  done | sort -n | sed -n 3p
-}
-
 printf '%-12s %8s %9s %10s %7s  %s\n' shape bytes seconds 'peak KiB' growth answer
 for shape in expression functions nesting comment 'one name' 'many names'; do
+  for size in 65536 131072 262000; do input "$shape" "$size" > "$folder/$size"; done
   last=0
+  least run "$folder/65536" "$folder/131072" "$folder/262000" > "$folder/seconds"
   for size in 65536 131072 262000; do
-    input "$shape" "$size" > "$folder/input"
-    bytes=$(wc -c < "$folder/input")
-    seconds=$(measure "$folder/input")
-    peak=$(python3 -c 'import resource, subprocess, sys
-subprocess.run([sys.argv[1], "run"], stdin=open(sys.argv[2]), stdout=subprocess.DEVNULL)
-print(resource.getrusage(resource.RUSAGE_CHILDREN).ru_maxrss)' "$program" "$folder/input" 2>/dev/null || echo -)
-    growth=$(awk -v a="$seconds" -v b="$last" 'BEGIN { if (b > 0) printf "%.2f", a / b; else print "-" }')
-    printf '%-12s %8s %9s %10s %7s  %s\n' "$shape" "$bytes" "$seconds" "$peak" "$growth" "$(head -c 40 "$folder/answer" | head -n 1)"
+    read -r seconds <&3
+    printf '%-12s %8s %9s %10s %7s  %s\n' "$shape" "$(wc -c < "$folder/$size")" "$seconds" "$(peak run "$folder/$size")" \
+      "$(growth "$seconds" "$last")" "$(answer run "$folder/$size")"
     last=$seconds
-  done
+  done 3< "$folder/seconds"
 done
