@@ -6,7 +6,7 @@ use Rattle.std.proofs.lemmas.Bool.{eq-eqb}
 use Rattle.m5_terms.specs.declared.types.World.{World}
 use Rattle.m5_terms.specs.declared.types.World.TheVariants.{Home, Server}
 use Rattle.m5_terms.specs.declared.ask.Act.TheVariants as act
-use Rattle.m5_meaning.specs.Asks.{Query, Reply, message, fired, event, nothing, take}
+use Rattle.m5_terms.specs.Asks.{Query, Reply, message, fired, event, nothing, take}
 use Rattle.m5_meaning.specs.Site.{Item}
 use Rattle.m5_network.specs.Board.{Trigger, Happening, handlers_of, Desk, Board, Answered, answer_of, answered_at, at_session, with_link, take_other}
 use Rattle.m5_network.specs.Entries.{shown}

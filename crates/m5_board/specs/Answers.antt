@@ -1,7 +1,7 @@
 -- What the code's answer says.
 use Rattle.std.specs.Prelude.{◌≡◌, ℕ, List, ◌∷◌}
 use Rattle.m5_terms.specs.declared.types.World.{World}
-use Rattle.m5_meaning.specs.Asks.{Query}
+use Rattle.m5_terms.specs.Asks.{Query}
 use Rattle.m5_meaning.specs.Site.{Item}
 use Rattle.m5_network.specs.Board.{Trigger, Happening, answer_of, at_session, with_link}
 use Rattle.m5_network.specs.Board as network

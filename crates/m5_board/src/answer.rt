@@ -3,7 +3,7 @@
 ghost use Rattle.std.specs.Prelude.{◌≡◌, ◌≢◌, ℕ, length, IfOk, MatchOption};
 ghost use Rattle.m5_terms.specs.declared.types.World.{World};
 ghost use Rattle.m5_terms.specs.declared.types.World.TheVariants.{Home, Server, Any};
-ghost use Rattle.m5_meaning.specs.Asks as asks;
+ghost use Rattle.m5_terms.specs.Asks as asks;
 ghost use Rattle.m5_meaning.specs.Site as item;
 ghost use Rattle.m5_network.specs.Entries.{shown};
 ghost use Rattle.m5_network.specs.Claim.{has_seal};

@@ -3,8 +3,8 @@ use Rattle.std.proofs.Common.{◌≡◌, ◌≢◌, ◌⊎◌, inl, inr, ℕ, ze
 use Rattle.std.proofs.lemmas.List.Elements.{All-map}
 use Rattle.m5_terms.specs.Expression.{Expression, leaf, unary, binary, ternary}
 use Rattle.m5_terms.specs.Substitution.{among, unary_binders, binary_binders, second_binders, third_binders}
-use Rattle.m5_meaning.specs.Machine.{Comes}
-use Rattle.m5_meaning.specs.Asks.{say, take, done, nothing}
+use Rattle.m5_terms.specs.Machine.{Comes}
+use Rattle.m5_terms.specs.Asks.{say, take, done, nothing}
 use Rattle.m5_terms.specs.declared.types.World.{World}
 use Rattle.m5_terms.specs.declared.types.World.TheVariants.{Home, Server, Any}
 use Rattle.m5_terms.specs.declared.form.LeafForm.TheVariants as leaf_form

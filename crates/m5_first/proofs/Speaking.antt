@@ -1,8 +1,8 @@
 -- A term of the first form, closed, goes on to unit and asks to say its texts on the way.
 use Rattle.std.proofs.Common.{◌≡◌, ℕ, List, [], ◌∷◌, ◌++◌, Option, Some, None, refl, ◌∙◌, subst}
 use Rattle.m5_terms.specs.Expression.{Expression, leaf, unary, binary, ternary}
-use Rattle.m5_meaning.specs.Machine.{asks, Comes}
-use Rattle.m5_meaning.specs.Asks.{say, Reply, done}
+use Rattle.m5_terms.specs.Machine.{asks, Comes}
+use Rattle.m5_terms.specs.Asks.{say, Reply, done}
 use Rattle.m5_terms.specs.declared.types.World.{World}
 use Rattle.m5_terms.specs.declared.types.Primitive.TheVariants as primitive
 use Rattle.m5_terms.specs.declared.form.LeafForm.{LeafForm}

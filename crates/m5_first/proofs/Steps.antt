@@ -2,7 +2,7 @@
 use Rattle.std.proofs.Common.{◌≡◌, ℕ, zero, suc, ◌+◌, List, ◌∷◌, ◌++◌, length, Some, refl, sym, ◌∙◌, subst}
 use Rattle.std.specs.Fmt.{signed_decimal}
 use Rattle.m5_terms.specs.Expression.{Expression, leaf, unary, binary}
-use Rattle.m5_meaning.specs.Machine.{goes, Comes}
+use Rattle.m5_terms.specs.Machine.{goes, Comes}
 use Rattle.m5_terms.specs.declared.types.World.{World}
 use Rattle.m5_terms.specs.declared.types.Op.TheVariants as op
 use Rattle.m5_terms.specs.declared.form.LeafForm.TheVariants as leaf_form

@@ -1,5 +1,3 @@
-pub mod Asks
-pub mod Machine
 pub mod Numbers
 pub mod Parts
 pub mod Reduction

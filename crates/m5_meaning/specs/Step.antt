@@ -2,8 +2,8 @@
 use Rattle.std.specs.Prelude.{ℕ, zero, suc, ◌+◌, Bool, true, false, nat_lt, nat_le, if◌then◌else◌, List, [], ◌∷◌, ◌++◌, length, sum_by, slice_get, slice_set, Option, Some, None}
 use Rattle.m5_terms.specs.Expression.{Expression, leaf, unary, binary}
 use Rattle.m5_terms.specs.TypeExpression as type
-use Rattle.m5_meaning.specs.Machine.{Next, goes, asks, wrong}
-use Rattle.m5_meaning.specs.Asks.{Query, say, set, get_text, on, read, write, watch, send, take, stop, Reply, done, found, missing, message, fired, event}
+use Rattle.m5_terms.specs.Machine.{Next, goes, asks, wrong}
+use Rattle.m5_terms.specs.Asks.{Query, say, set, get_text, on, read, write, watch, send, take, stop, Reply, done, found, missing, message, fired, event}
 use Rattle.m5_terms.specs.declared.types.World.{World}
 use Rattle.m5_terms.specs.declared.ask.Cause.{Cause}
 use Rattle.m5_terms.specs.declared.ask.Cause.TheVariants.{Table}

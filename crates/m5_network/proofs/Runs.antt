@@ -1,8 +1,8 @@
 -- Prefixes of runs, runs that go on, and what the places determine.
 use Rattle.std.proofs.Common.{◌≡◌, ℕ, zero, suc, Option, Some, None, [], ◌∷◌, refl, sym, ap, subst, ◌∙◌}
 use Rattle.m5_terms.specs.declared.ask.Cause.{Cause}
-use Rattle.m5_meaning.specs.Machine.{Next, goes, asks, Comes}
-use Rattle.m5_meaning.specs.Asks.{Query, Reply}
+use Rattle.m5_terms.specs.Machine.{Next, goes, asks, Comes}
+use Rattle.m5_terms.specs.Asks.{Query, Reply}
 use Rattle.m5_meaning.specs.Site.{Program, Site, Item}
 use Rattle.m5_meaning.specs.Step.{site_next}
 use Rattle.m5_script.specs.Scenario.{Scenario}

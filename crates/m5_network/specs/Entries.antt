@@ -1,6 +1,6 @@
 -- Deeds, and the entry of a history that shows each.
 use Rattle.std.specs.Prelude.{ℕ, Bool, List, [], if◌then◌else◌}
-use Rattle.m5_meaning.specs.Asks.{Query, say, set, get_text, on, read, write, watch, send, take, stop, Reply, found, message, fired, event}
+use Rattle.m5_terms.specs.Asks.{Query, say, set, get_text, on, read, write, watch, send, take, stop, Reply, found, message, fired, event}
 use Rattle.m5_terms.specs.declared.types.World.{World}
 use Rattle.m5_terms.specs.declared.ask.Act.{Act}
 use Rattle.m5_terms.specs.declared.ask.Act.TheVariants as act

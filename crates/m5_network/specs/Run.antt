@@ -1,8 +1,8 @@
 -- Runs of a program by a list of places, and when a stop is licensed and a run is finished.
 use Rattle.std.specs.Prelude.{◌≡◌, ◌≢◌, ◌⊎◌, ℕ, ◌+◌, ◌-◌, ◌≤◌, true, false, List, [], ◌∷◌, Option, Some, None, Contains}
 use Rattle.m5_terms.specs.Worlds.{site_worlds}
-use Rattle.m5_meaning.specs.Machine.{goes, asks, wrong, Comes}
-use Rattle.m5_meaning.specs.Asks.{Query, take, stop, Reply, done, nothing}
+use Rattle.m5_terms.specs.Machine.{goes, asks, wrong, Comes}
+use Rattle.m5_terms.specs.Asks.{Query, take, stop, Reply, done, nothing}
 use Rattle.m5_terms.specs.declared.types.World.{World}
 use Rattle.m5_terms.specs.declared.ask.Cause.{Cause}
 use Rattle.m5_terms.specs.declared.ask.Cause.TheVariants.{Spent, Region, Table}

@@ -3,8 +3,8 @@ use Rattle.std.proofs.Common.{◌≡◌, ℕ, Bool, true, false, [], Option, Som
 use Rattle.std.specs.Prelude.{Result, Ok, Err, IfOk}
 use Rattle.m5_terms.specs.declared.types.World.{World}
 use Rattle.m5_terms.specs.declared.types.World.TheVariants.{Any}
-use Rattle.m5_meaning.specs.Machine.{asks}
-use Rattle.m5_meaning.specs.Asks.{Query, Reply, take, message}
+use Rattle.m5_terms.specs.Machine.{asks}
+use Rattle.m5_terms.specs.Asks.{Query, Reply, take, message}
 use Rattle.m5_meaning.specs.Site.{Program, Site, Item, raw}
 use Rattle.m5_meaning.specs.Step.{after_take, site_next}
 use Rattle.m5_script.specs.Scenario.{Scenario}

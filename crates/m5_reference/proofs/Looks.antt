@@ -11,8 +11,8 @@ use Rattle.m5_terms.specs.declared.thread.Frame.{Frame}
 use Rattle.m5_terms.specs.declared.thread.Frame.TheVariants.{Part, Return}
 use Rattle.m5_terms.specs.declared.thread.Focus.{Focus}
 use Rattle.m5_terms.specs.declared.thread.Focus.TheVariants.{Eval, Returned}
-use Rattle.m5_meaning.specs.Machine.{goes, asks, wrong}
-use Rattle.m5_meaning.specs.Asks.{Query, Reply, take}
+use Rattle.m5_terms.specs.Machine.{goes, asks, wrong}
+use Rattle.m5_terms.specs.Asks.{Query, Reply, take}
 use Rattle.m5_meaning.specs.Parts.{parts, fill}
 use Rattle.m5_meaning.specs.Site.{Program, Thread, Site, Item}
 use Rattle.m5_meaning.specs.Reduction.{Reduced, gives, makes_text, goes_on, makes_cell, loads, stores, leaves, says, sets, writes, gets, reads, handles, watches, reduced}

@@ -1,7 +1,7 @@
 -- Local steps without a licence, and then more of them.
 use Rattle.std.proofs.Common.{◌≡◌, ℕ, zero, suc, ◌<◌, refl, sym, subst, arith}
 use Rattle.m5_terms.specs.declared.types.World.{World}
-use Rattle.m5_meaning.specs.Machine.{goes, Comes}
+use Rattle.m5_terms.specs.Machine.{goes, Comes}
 use Rattle.m5_meaning.specs.Site.{Program, Site}
 use Rattle.m5_meaning.specs.Step.{site_next}
 use Rattle.m5_script.specs.Scenario.{Scenario}

@@ -6,8 +6,8 @@ use Rattle.m5_terms.specs.declared.ask.Act.{Act}
 use Rattle.m5_terms.specs.declared.ask.Act.TheVariants as act
 use Rattle.m5_terms.specs.declared.ask.Cause.{Cause}
 use Rattle.m5_terms.specs.declared.ask.Entry.{Entry}
-use Rattle.m5_meaning.specs.Machine.{asks}
-use Rattle.m5_meaning.specs.Asks.{Query, Reply, take, stop, done, nothing}
+use Rattle.m5_terms.specs.Machine.{asks}
+use Rattle.m5_terms.specs.Asks.{Query, Reply, take, stop, done, nothing}
 use Rattle.m5_meaning.specs.Site.{Program, Site, Item}
 use Rattle.m5_meaning.specs.Step.{site_next}
 use Rattle.m5_script.specs.Scenario.{Scenario}

@@ -3,8 +3,8 @@ use Rattle.std.specs.Prelude.{◌≡◌, ◌≢◌, ℕ, ◌<◌, [], Option}
 use Rattle.m5_terms.specs.declared.types.World.{World}
 use Rattle.m5_terms.specs.declared.ask.Cause.{Cause}
 use Rattle.m5_terms.specs.declared.ask.Cause.TheVariants.{Spent, Region}
-use Rattle.m5_meaning.specs.Machine.{asks, wrong, Comes}
-use Rattle.m5_meaning.specs.Asks.{Query, Reply}
+use Rattle.m5_terms.specs.Machine.{asks, wrong, Comes}
+use Rattle.m5_terms.specs.Asks.{Query, Reply}
 use Rattle.m5_meaning.specs.Site.{Program, Site, Item}
 use Rattle.m5_meaning.specs.Step.{site_next}
 use Rattle.m5_script.specs.Scenario.{Scenario}

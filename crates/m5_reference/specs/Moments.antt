@@ -2,7 +2,7 @@
 use Rattle.std.specs.Prelude.{◌≡◌, ◌+◌, ◌<◌, ◌^◌}
 use Rattle.m5_terms.specs.declared.types.World.{World}
 use Rattle.m5_terms.specs.declared.ask.Cause.TheVariants.{Spent, Region}
-use Rattle.m5_meaning.specs.Machine.{goes, asks, wrong}
+use Rattle.m5_terms.specs.Machine.{goes, asks, wrong}
 use Rattle.m5_meaning.specs.Site.{Program, Site}
 use Rattle.m5_meaning.specs.Step.{site_next}
 use Rattle.m5_script.specs.Scenario.{Scenario}

@@ -2,8 +2,8 @@
 use Rattle.std.specs.Prelude.{◌≡◌, ◌≢◌, ◌⊎◌, ℕ, [], ◌∷◌, Option, Some, None}
 use Rattle.m5_terms.specs.declared.types.World.{World}
 use Rattle.m5_terms.specs.declared.ask.Act.{Act}
-use Rattle.m5_meaning.specs.Machine.{asks, wrong, Comes}
-use Rattle.m5_meaning.specs.Asks.{Query, Reply, nothing}
+use Rattle.m5_terms.specs.Machine.{asks, wrong, Comes}
+use Rattle.m5_terms.specs.Asks.{Query, Reply, nothing}
 use Rattle.m5_meaning.specs.Site.{Program, Site, Item}
 use Rattle.m5_meaning.specs.Step.{site_next}
 use Rattle.m5_script.specs.Scenario.{Scenario}

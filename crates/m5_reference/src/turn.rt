@@ -2,7 +2,7 @@
 
 ghost use Rattle.std.specs.Prelude.{◌≡◌, ◌≢◌, ◌<◌, ◌^◌, ◌↔◌, length, IfOk, OnOk, IsTrue, Some};
 ghost use Rattle.m5_terms.specs.declared.types.World.TheVariants.{Any};
-ghost use Rattle.m5_meaning.specs.Asks as asks;
+ghost use Rattle.m5_terms.specs.Asks as asks;
 ghost use Rattle.m5_script.specs.Scenario.{Scenario};
 ghost use Rattle.m5_network.specs.Board.{answer_of};
 ghost use Rattle.m5_network.specs.Run.{Network};

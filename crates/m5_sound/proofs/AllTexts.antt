@@ -3,7 +3,7 @@ use Rattle.std.proofs.Common.{ℕ, List, [], ◌∷◌, map, refl}
 use Rattle.std.specs.List.{AllByRecursion as Each}
 use Rattle.m5_terms.specs.Text.{IsText}
 use Rattle.m5_terms.specs.declared.ask.Entry.{Entry}
-use Rattle.m5_meaning.specs.Asks.{Query, get_text, read, send, take, Reply, found, message, fired, event}
+use Rattle.m5_terms.specs.Asks.{Query, get_text, read, send, take, Reply, found, message, fired, event}
 use Rattle.m5_meaning.specs.Site.{Item, thread, raw}
 use Rattle.m5_network.specs.Claim.{has_seal}
 use Rattle.m5_network.specs.Entries.{Deed, text_found, read_shown, take_shown, shown, entry_of}

@@ -10,7 +10,7 @@ use Rattle.m5_terms.specs.declared.types.World.{World}
 use Rattle.m5_terms.specs.declared.types.World.TheVariants.{Home, Server, Any}
 use Rattle.m5_typing.specs.Context.{CellTypes, Setting}
 use Rattle.m5_typing.specs.Laws.{Extends}
-use Rattle.m5_meaning.specs.Asks.{Query, say, set, get_text, on, read, write, watch, send, take, stop, nothing}
+use Rattle.m5_terms.specs.Asks.{Query, say, set, get_text, on, read, write, watch, send, take, stop, nothing}
 use Rattle.m5_meaning.specs.Site.{Program, Item}
 use Rattle.m5_script.specs.declared.items.TextPair.{TextPair}
 use Rattle.m5_script.specs.Scenario.{IsPair}

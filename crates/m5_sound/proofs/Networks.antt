@@ -13,8 +13,8 @@ use Rattle.m5_terms.specs.declared.types.Primitive.TheVariants as primitive
 use Rattle.m5_terms.specs.Primitives.{primitive_world}
 use Rattle.m5_typing.specs.Context.{CellTypes, Setting}
 use Rattle.m5_typing.specs.Program.{IsProgram}
-use Rattle.m5_meaning.specs.Machine.{goes, asks, wrong, Comes}
-use Rattle.m5_meaning.specs.Asks.{Query, read, send, take, stop, Reply, found, message, nothing}
+use Rattle.m5_terms.specs.Machine.{goes, asks, wrong, Comes}
+use Rattle.m5_terms.specs.Asks.{Query, read, send, take, stop, Reply, found, message, nothing}
 use Rattle.m5_meaning.specs.Site.{Program, Site, Item, thread, raw}
 use Rattle.m5_meaning.specs.Step.{SiteNext, site_next}
 use Rattle.m5_script.specs.Scenario.{Scenario, IsPair, IsEvent}

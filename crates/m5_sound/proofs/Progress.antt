@@ -6,8 +6,8 @@ use Rattle.m5_terms.specs.declared.ask.Cause.{Cause}
 use Rattle.m5_terms.specs.declared.ask.Cause.TheVariants.{Spent}
 use Rattle.m5_typing.specs.Context.{CellTypes}
 use Rattle.m5_typing.specs.Program.{IsProgram}
-use Rattle.m5_meaning.specs.Machine.{goes, asks, wrong, Comes}
-use Rattle.m5_meaning.specs.Asks.{Query, get_text, read, take, stop, Reply, done, nothing}
+use Rattle.m5_terms.specs.Machine.{goes, asks, wrong, Comes}
+use Rattle.m5_terms.specs.Asks.{Query, get_text, read, take, stop, Reply, done, nothing}
 use Rattle.m5_meaning.specs.Site.{Program, Thread, Site, Item}
 use Rattle.m5_meaning.specs.Step.{SiteNext, after_take, front, site_next}
 use Rattle.m5_script.specs.Scenario.{Scenario}

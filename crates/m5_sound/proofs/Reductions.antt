@@ -31,7 +31,7 @@ use Rattle.m5_typing.proofs.Mobile.{both-left, both-right, moves}
 use Rattle.m5_typing.proofs.Everywhere.{anywhere, anywhere-one}
 use Rattle.m5_typing.proofs.Substitute.{substitution_law}
 use Rattle.m5_typing.proofs.Declared.{declared_is_typed}
-use Rattle.m5_meaning.specs.Asks.{say, set, get_text, on, read, write, watch}
+use Rattle.m5_terms.specs.Asks.{say, set, get_text, on, read, write, watch}
 use Rattle.m5_meaning.specs.Parts.{unary_parts, parts}
 use Rattle.m5_meaning.specs.Reduction.{Reduced, gives, makes_text, goes_on, makes_cell, loads, stores, leaves, says, sets, writes, gets, reads, handles, watches, wrong, unit_value, unit_or, called_extern, called_function, called, first_of, second_of, text_of_number, divided, operated, at_cell, got, unheld, unsham, reduced_unary, reduced_binary, chosen, case_of_sum, case_of_list, reduced_ternary, reduced}
 use Rattle.m5_meaning.specs.Site.{Program}

@@ -10,8 +10,8 @@ use Rattle.m5_terms.specs.declared.thread.Frame.{Frame}
 use Rattle.m5_terms.specs.declared.thread.Focus.{Focus}
 use Rattle.m5_terms.specs.declared.thread.Focus.TheVariants.{Returned}
 use Rattle.m5_terms.specs.declared.ask.Cause.TheVariants.{Table}
-use Rattle.m5_meaning.specs.Machine.{asks}
-use Rattle.m5_meaning.specs.Asks.{Query, get_text, read, take, stop, Reply, done, found, missing, message, fired, event}
+use Rattle.m5_terms.specs.Machine.{asks}
+use Rattle.m5_terms.specs.Asks.{Query, get_text, read, take, stop, Reply, done, found, missing, message, fired, event}
 use Rattle.m5_meaning.specs.Site.{Program, Thread, Site, Item, thread, raw}
 use Rattle.m5_typing.specs.Context.{CellTypes, Setting}
 use Rattle.m5_meaning.specs.Reduction.{text_value, unit_or}

@@ -8,7 +8,7 @@ use Rattle.m5_terms.specs.declared.thread.Frame.{Frame}
 use Rattle.m5_terms.specs.declared.thread.Frame.TheVariants.{Part, Return}
 use Rattle.m5_terms.specs.declared.thread.Focus.{Focus}
 use Rattle.m5_terms.specs.declared.thread.Focus.TheVariants.{Eval, Returned}
-use Rattle.m5_meaning.specs.Asks.{Query, say, set, get_text, on, read, write, watch, send, take, stop, Reply, message}
+use Rattle.m5_terms.specs.Asks.{Query, say, set, get_text, on, read, write, watch, send, take, stop, Reply, message}
 use Rattle.m5_meaning.specs.Site.{Thread, Site, Item, thread, raw}
 use Rattle.m5_typing.specs.Context.{Setting, nothing}
 use Rattle.m5_sound.specs.Threads.{FramesTyped, FocusTyped, ThreadTyped}

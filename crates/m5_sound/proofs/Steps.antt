@@ -14,8 +14,8 @@ use Rattle.m5_terms.specs.declared.thread.Frame.{Frame}
 use Rattle.m5_terms.specs.declared.thread.Frame.TheVariants.{Part, Return}
 use Rattle.m5_terms.specs.declared.thread.Focus.{Focus}
 use Rattle.m5_terms.specs.declared.thread.Focus.TheVariants.{Eval, Returned}
-use Rattle.m5_meaning.specs.Machine.{goes, asks}
-use Rattle.m5_meaning.specs.Asks.{Query, say, set, on, write, watch, send, take}
+use Rattle.m5_terms.specs.Machine.{goes, asks}
+use Rattle.m5_terms.specs.Asks.{Query, say, set, on, write, watch, send, take}
 use Rattle.m5_meaning.specs.Site.{Program, Thread, Site, Item, thread}
 use Rattle.m5_typing.specs.Value.{IsValue}
 use Rattle.m5_typing.specs.Context.{CellTypes, Setting, nothing, type_at}

@@ -7,7 +7,7 @@ use Rattle.m5_terms.specs.declared.ask.Cause.{Cause}
 use Rattle.m5_terms.specs.declared.ask.Entry.{Entry}
 use Rattle.m5_typing.specs.Context.{CellTypes}
 use Rattle.m5_typing.specs.Program.{IsProgram}
-use Rattle.m5_meaning.specs.Machine.{wrong}
+use Rattle.m5_terms.specs.Machine.{wrong}
 use Rattle.m5_meaning.specs.Site.{Program, Thread, Site, Item}
 use Rattle.m5_meaning.specs.Step.{site_next}
 use Rattle.m5_script.specs.Scenario.{Scenario, IsScript}

@@ -5,7 +5,7 @@ use Rattle.m5_terms.specs.declared.types.World.{World}
 use Rattle.m5_terms.specs.declared.types.World.TheVariants.{Any}
 use Rattle.m5_typing.specs.Context.{CellTypes}
 use Rattle.m5_typing.specs.Program.{IsProgram}
-use Rattle.m5_meaning.specs.Machine.{Comes}
+use Rattle.m5_terms.specs.Machine.{Comes}
 use Rattle.m5_meaning.specs.Site.{Program, Site, Item}
 use Rattle.m5_meaning.specs.Step.{site_next}
 use Rattle.m5_script.specs.Scenario.{Scenario, IsScript}

@@ -11,8 +11,8 @@ use Rattle.m5_terms.specs.declared.types.World.TheVariants.{Any}
 use Rattle.m5_typing.specs.Value.{IsValue}
 use Rattle.m5_typing.specs.Context.{CellTypes, Setting, nothing}
 use Rattle.m5_typing.specs.Typing.{Typed}
-use Rattle.m5_meaning.specs.Machine.{goes, asks, wrong}
-use Rattle.m5_meaning.specs.Asks.{Query, say, set, get_text, on, read, write, watch, send, take, stop, Reply, done, found, missing, message, fired, event}
+use Rattle.m5_terms.specs.Machine.{goes, asks, wrong}
+use Rattle.m5_terms.specs.Asks.{Query, say, set, get_text, on, read, write, watch, send, take, stop, Reply, done, found, missing, message, fired, event}
 use Rattle.m5_meaning.specs.Site.{Site, Item, thread, raw}
 use Rattle.m5_meaning.specs.Step.{SiteNext}
 use Rattle.m5_sound.specs.Settings.{with_cells, Grows, GrowsAt}

@@ -12,7 +12,7 @@ use Rattle.m5_terms.specs.declared.thread.Focus.{Focus}
 use Rattle.m5_terms.specs.declared.thread.Focus.TheVariants.{Eval, Returned}
 use Rattle.m5_terms.specs.declared.ask.Act.{Act}
 use Rattle.m5_terms.specs.declared.ask.Act.TheVariants as act
-use Rattle.m5_meaning.specs.Asks.{Query, say, set, get_text, on, read, write, watch, send, Reply, found, message, fired, event}
+use Rattle.m5_terms.specs.Asks.{Query, say, set, get_text, on, read, write, watch, send, Reply, found, message, fired, event}
 use Rattle.m5_meaning.specs.Site.{Thread, Site, Item, thread, raw}
 use Rattle.m5_script.specs.Scenario.{IsPair}
 use Rattle.m5_network.specs.Board.{Watch, Trigger, Happening, Handling, Desk, Board}

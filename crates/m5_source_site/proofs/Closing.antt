@@ -15,7 +15,7 @@ use Rattle.m5_terms.specs.declared.thread.Frame.{Frame}
 use Rattle.m5_terms.specs.declared.thread.Frame.TheVariants.{Part, Return}
 use Rattle.m5_terms.specs.declared.thread.Focus.{Focus}
 use Rattle.m5_terms.specs.declared.thread.Focus.TheVariants.{Eval, Returned}
-use Rattle.m5_meaning.specs.Asks.{Query, on, watch, Reply, done, found, missing, message, fired, event}
+use Rattle.m5_terms.specs.Asks.{Query, on, watch, Reply, done, found, missing, message, fired, event}
 use Rattle.m5_meaning.specs.Parts.{parts, part, fill, inner_world, unary_parts, binary_parts}
 use Rattle.m5_meaning.specs.Site.{Program, Thread, Site, Item, thread, raw}
 use Rattle.m5_meaning.specs.Reduction.{Reduced, gives, makes_text, goes_on, makes_cell, loads, stores, leaves, says, sets, writes, gets, reads, handles, watches, reduced, unit_value}

@@ -10,8 +10,8 @@ use Rattle.m5_terms.specs.declared.form.UnaryForm.TheVariants as unary_form
 use Rattle.m5_terms.specs.declared.thread.Frame.{Frame}
 use Rattle.m5_terms.specs.declared.thread.Frame.TheVariants.{Part, Return}
 use Rattle.m5_terms.specs.declared.thread.Focus.TheVariants.{Eval, Returned}
-use Rattle.m5_meaning.specs.Machine.{goes, asks}
-use Rattle.m5_meaning.specs.Asks.{stop}
+use Rattle.m5_terms.specs.Machine.{goes, asks}
+use Rattle.m5_terms.specs.Asks.{stop}
 use Rattle.m5_meaning.specs.Parts.{parts, fill}
 use Rattle.m5_meaning.specs.Site.{Program, Thread, Site}
 use Rattle.m5_meaning.specs.Step.{SiteNext, outcome, stops_full, atom, is_full, stepped, thread_of, part_begun, returned}

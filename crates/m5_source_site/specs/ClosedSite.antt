@@ -8,8 +8,8 @@ use Rattle.m5_terms.specs.declared.thread.Focus.{Focus}
 use Rattle.m5_terms.specs.declared.thread.Focus.TheVariants.{Eval, Returned}
 use Rattle.m5_typing.specs.declared.functions.Function.{Function}
 use Rattle.m5_typing.specs.Program.{IsProgram}
-use Rattle.m5_meaning.specs.Machine.{goes, asks, wrong}
-use Rattle.m5_meaning.specs.Asks.{Query, send, Reply, message}
+use Rattle.m5_terms.specs.Machine.{goes, asks, wrong}
+use Rattle.m5_terms.specs.Asks.{Query, send, Reply, message}
 use Rattle.m5_meaning.specs.Site.{Program, Thread, Site, Item, thread, raw}
 use Rattle.m5_meaning.specs.Step.{SiteNext, site_next}
 

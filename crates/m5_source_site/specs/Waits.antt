@@ -1,9 +1,9 @@
 -- What the code's asks and waiting sites stand for.
 use Rattle.std.specs.Prelude.{◌≡◌, Bool, false, ◌∷◌, Option, Some}
 use Rattle.m5_terms.specs.declared.types.World.{World}
-use Rattle.m5_meaning.specs.Machine.{goes, asks, wrong}
-use Rattle.m5_meaning.specs.Asks.{Query, Reply}
-use Rattle.m5_meaning.specs.Asks as asks
+use Rattle.m5_terms.specs.Machine.{goes, asks, wrong}
+use Rattle.m5_terms.specs.Asks.{Query, Reply}
+use Rattle.m5_terms.specs.Asks as asks
 use Rattle.m5_meaning.specs.Site.{Program, Thread, Site, Item}
 use Rattle.m5_meaning.specs.Site as item
 use Rattle.m5_meaning.specs.Step.{SiteNext, is_full, after_done, after_get_text, after_read, after_take, stopped_by}

@@ -6,7 +6,7 @@ ghost use Rattle.m5_terms.specs.declared.types.World.{World};
 ghost use Rattle.m5_terms.specs.declared.thread.Focus.TheVariants.{Returned};
 ghost use Rattle.m5_terms.specs.declared.thread.Frame.TheVariants.{Part, Return};
 ghost use Rattle.m5_meaning.specs.Parts.{fill};
-ghost use Rattle.m5_meaning.specs.Machine.{goes};
+ghost use Rattle.m5_terms.specs.Machine.{goes};
 ghost use Rattle.m5_meaning.specs.Reduction.{reduced};
 ghost use Rattle.m5_meaning.specs.Step.{thread_of, part_begun, outcome, returned};
 ghost use Rattle.m5_meaning.specs.Site.{Program, Thread};

@@ -11,3 +11,7 @@ pub mod Closed
 pub mod Worlds
 pub mod Seal
 pub mod Text
+pub mod Asks
+pub mod Machine
+pub mod Keeping
+pub mod Diagram

@@ -6,6 +6,7 @@ pub mod binders;
 pub mod build;
 pub mod copy;
 pub mod form;
+pub mod keeping;
 pub mod listed;
 pub mod node;
 pub mod opened;

@@ -1,5 +1,5 @@
 use Rattle.std.proofs.Common.{◌≡◌, [], subst, arith}
-use Rattle.m5_meaning.specs.Machine.{goes}
+use Rattle.m5_terms.specs.Machine.{goes}
 use Rattle.m5_meaning.specs.Step.{site_next}
 use Rattle.m5_source_site.specs.ClosedSite.{IsClosedNext}
 use Rattle.m5_source_site.proofs.Closing.{stays_closed}

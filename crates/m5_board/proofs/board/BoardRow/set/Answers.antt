@@ -1,5 +1,5 @@
 use Rattle.std.proofs.Common.{refl}
-use Rattle.m5_meaning.specs.Asks as asks
+use Rattle.m5_terms.specs.Asks as asks
 use Rattle.m5_board.specs.contracts.board.BoardRow.{the_view}
 use Rattle.m5_board.proofs.Replies.{by-desk, from-inside}
 use Rattle.m5_board.proofs.board.BoardRow.set.Goals as goal

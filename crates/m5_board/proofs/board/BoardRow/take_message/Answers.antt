@@ -1,6 +1,6 @@
 use Rattle.std.proofs.Common.{refl}
 use Rattle.m5_terms.specs.declared.types.World.TheVariants.{Server}
-use Rattle.m5_meaning.specs.Asks.{take}
+use Rattle.m5_terms.specs.Asks.{take}
 use Rattle.m5_board.specs.contracts.board.BoardRow.{the_view}
 use Rattle.m5_board.proofs.Replies.{from-inside, from-home, from-server, receives-from, nothing-there}
 use Rattle.m5_board.proofs.board.BoardRow.take_message.Goals as goal
