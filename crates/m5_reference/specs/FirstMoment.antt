@@ -1,10 +1,10 @@
 -- The first moment at which a site may be stopped.
-use Rattle.std.specs.Prelude.{◌≡◌, ◌≢◌, ℕ, ◌<◌, [], Option}
+use Rattle.std.specs.Prelude.{◌≡◌, ◌≢◌, ◌⊎◌, ℕ, ◌<◌, [], Option}
 use Rattle.m5_terms.specs.declared.types.World.{World}
 use Rattle.m5_terms.specs.declared.ask.Cause.{Cause}
 use Rattle.m5_terms.specs.declared.ask.Cause.TheVariants.{Spent, Region}
 use Rattle.m5_terms.specs.Machine.{asks, wrong, Comes}
-use Rattle.m5_terms.specs.Asks.{Query, Reply}
+use Rattle.m5_terms.specs.Asks.{Query, stop, Reply}
 use Rattle.m5_meaning.specs.Site.{Program, Site, Item}
 use Rattle.m5_meaning.specs.Step.{site_next}
 use Rattle.m5_script.specs.Scenario.{Scenario}
@@ -46,3 +46,7 @@ pub record GoesWrong (P : Program) (S : Scenario) (w : World) (from : Site) : Ty
   pub comes : ComesFree P S w steps from at
   pub free : IsFree P S w at
   pub stuck : site_next P w at ≡ wrong
+
+-- the first moment is a stop for this cause, or this ask
+abbrev pub ByFirstMoment : Program → Scenario → World → Site → Query Item → Type 0
+ByFirstMoment P S w x q = ((cause : Cause) × (q ≡ stop cause) × StopsFirst P S w cause x) ⊎ ((resume : Reply Item → Option Site) × AsksFree P S w x q resume)

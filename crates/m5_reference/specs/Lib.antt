@@ -1,5 +1,6 @@
 pub mod Budget
 pub mod FirstMoment
+pub mod Reference
 pub mod Moments
 pub mod OpeningLists
 pub mod SiteRows

@@ -11,23 +11,24 @@ use Rattle.m5_network.specs.Board.{Answered, answer_of}
 use Rattle.m5_network.specs.Entries.{Deed, shown, entry_of}
 use Rattle.m5_network.specs.Claim.{has_seal}
 use Rattle.m5_network.specs.Run.{Network, with_site}
-use Rattle.m5_network.specs.Plain.{Turn}
 use Rattle.m5_board.specs.BoardLists.{BoardLists, board_of}
 use Rattle.m5_reference.specs.Ahead.{IsAhead, kept}
+use Rattle.m5_reference.specs.Reference.{FirstTurn}
 use Rattle.m5_reference.specs.declared.turn.Turned.{Turned}
 use Rattle.m5_reference.specs.declared.turn.Turned.TheVariants as turned
 
--- a deed, with what the history shows of it; after it the board is this one and the code's site is what is left
+-- a deed at the site's first moment, with what the history shows of it; after it the board is this one and the code's site is
+-- what is left
 pub record MakesDeed (P : Program) (S : Scenario) (N : Network) (s : ℕ) (w : World) (board : BoardLists) (left : Option Site) (act : Act) : Type 0 where
   pub deed : Deed Item
   pub site : Site
-  pub turn : Turn P S N (record { session = s; world = w }) (deed ∷ []) (with_site s w site (board_of board) N)
+  pub turn : FirstTurn P S N (record { session = s; world = w }) (deed ∷ []) (with_site s w site (board_of board) N)
   pub ahead : IsAhead P S w site left
   pub entry : entry_of has_seal deed ≡ record { session = s; world = w; act = act }
 
 -- nothing is found: the board stays, and the code's site waits
 pub record FindsNothing (P : Program) (S : Scenario) (N : Network) (s : ℕ) (w : World) (board : BoardLists) (left : Site) : Type 0 where
-  pub turn : Turn P S N (record { session = s; world = w }) [] N
+  pub turn : FirstTurn P S N (record { session = s; world = w }) [] N
   pub same : board_of board ≡ N.board
   pub ahead : IsAhead P S w (N.site s w) (Some left)
 
