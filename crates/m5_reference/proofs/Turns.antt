@@ -98,7 +98,7 @@ asks-turned P S N s w x y k q b (turned.Rests z) a f n h =
     }
 asks-turned P S N s w x y k q b turned.Wrong a f n h =
     let c : ComesFree P S w (plus a.1.0 f.steps) (N.site s w) f.waiting = follow P S w a.1.0 f.steps (N.site s w) x f.waiting a.1.1 f.comes in
-    record { steps = plus a.1.0 f.steps; at = f.waiting; comes = c.comes; stuck = inr (q, resumed P w y k, f.asking, h) }
+    record { steps = plus a.1.0 f.steps; at = f.waiting; comes = c.comes; stuck = inr (q, resumed P w y k, f.asking, h.0, h.1) }
 
 pub wrong-turned : (P : Program) (S : Scenario) (N : Network) (s : ℕ) (w : World) (x : Site) → IsAhead P S w (N.site s w) (Some x) → GoesWrong P S w x → IsStuck P N s w
 wrong-turned P S N s w x a h =

@@ -32,12 +32,12 @@ pub record FindsNothing (P : Program) (S : Scenario) (N : Network) (s : ℕ) (w 
   pub same : board_of board ≡ N.board
   pub ahead : IsAhead P S w (N.site s w) (Some left)
 
--- the site comes to where the meaning goes wrong, or to an ask whose answer is none to it
+-- the site comes to where the meaning goes wrong, or to an ask that is answered by what is no answer to it
 pub record IsStuck (P : Program) (N : Network) (s : ℕ) (w : World) : Type 0 where
   pub steps : ℕ
   pub at : Site
   pub comes : Comes (site_next P w) steps (N.site s w) at
-  pub stuck : (site_next P w at ≡ wrong) ⊎ ((q : Query Item) × (resume : Reply Item → Option Site) × (site_next P w at ≡ asks q resume) × (resume (answer_of N.board s w q).reply ≡ None))
+  pub stuck : (site_next P w at ≡ wrong) ⊎ ((q : Query Item) × (resume : Reply Item → Option Site) × (site_next P w at ≡ asks q resume) × ((answer_of N.board s w q).reply ≢ nothing) × (resume (answer_of N.board s w q).reply ≡ None))
 
 abbrev pub IsTurned : Program → Scenario → Network → ℕ → World → BoardLists → Turned → Type 0
 IsTurned P S N s w b (turned.Acts left act) = MakesDeed P S N s w b left act
@@ -56,4 +56,4 @@ pub record IsResumed (q : Query Item) (resume : Reply Item → Option Site) (x :
 abbrev pub IsAskTurned : Site → Query Item → (Reply Item → Option Site) → Answered Item → Turned → Type 0
 IsAskTurned y q resume x (turned.Acts left act) = IsResumed q resume x left act
 IsAskTurned y q resume x (turned.Rests site) = (x.reply ≡ nothing) × (site ≡ y)
-IsAskTurned y q resume x turned.Wrong = resume x.reply ≡ None
+IsAskTurned y q resume x turned.Wrong = (x.reply ≢ nothing) × (resume x.reply ≡ None)
