@@ -8,3 +8,6 @@ pub mod Silence
 pub mod Turns
 pub mod ClosedBoard
 pub mod ClosedTurns
+pub mod Rows
+pub mod SiteMaps
+pub mod TakenTurns

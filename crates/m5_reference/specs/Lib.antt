@@ -4,6 +4,7 @@ pub mod Reference
 pub mod Moments
 pub mod OpeningLists
 pub mod SiteRows
+pub mod Running
 pub mod Ahead
 pub mod Turning
 pub mod ClosedTurn

@@ -4,6 +4,7 @@
 
 pub mod moment;
 pub mod opening;
+pub mod running;
 pub mod sites;
 #[cfg(test)]
 mod tests;

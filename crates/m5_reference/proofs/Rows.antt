@@ -1,0 +1,57 @@
+-- One site of a row is changed.
+use Rattle.std.proofs.Common.{◌≡◌, ◌≢◌, ℕ, zero, suc, ◌-◌, ◌<◌, ◌≤◌, ◌==◌, Bool, true, false, List, [], ◌∷◌, length, get_or, Option, Some, None, refl, sym, ap, subst, ◌∙◌, if◌then◌else◌, arith}
+use Rattle.std.specs.Prelude.{slice_get, slice_set}
+use Rattle.std.proofs.Math.Dec.{eqb-suc-zero, eqb-zero-suc, eqb-suc-suc}
+use Rattle.m5_terms.specs.declared.types.World.{World}
+use Rattle.m5_terms.specs.declared.types.World.TheVariants.{Home, Server, Any}
+use Rattle.m5_meaning.specs.Site.{Site}
+use Rattle.m5_network.specs.Board.{at_session, at_world}
+use Rattle.m5_reference.specs.SiteRows.{site_in, with_site_in, site_of_row, site_at, with_site_at}
+use Rattle.m5_reference.specs.declared.sites.SessionSites.{SessionSites}
+
+-- the place that is set, and the others
+at-place : (rows : List SessionSites) (k j : ℕ) (r : SessionSites) (w : World) → k < length rows → site_of_row (slice_get (slice_set rows k r) j) w ≡ (if j == k then site_in r w else site_of_row (slice_get rows j) w)
+at-place [] k j r w h = absurd (omega (arith, h))
+at-place (x ∷ rows) zero zero r w h = refl
+at-place (x ∷ rows) zero (suc j) r w h = rw (eqb-suc-zero j) refl
+at-place (x ∷ rows) (suc k) zero r w h = rw (eqb-zero-suc k) refl
+at-place (x ∷ rows) (suc k) (suc j) r w h = rw (eqb-suc-suc j k) (at-place rows k j r w (omega (arith, h)))
+
+-- the session's row, and the others
+by-session : (b : Bool) (x y : Option Site) (f g : World → Option Site) (v : World) → x ≡ f v → y ≡ g v → (if b then x else y) ≡ (if b then f else g) v
+by-session true x y f g v d e = d
+by-session false x y f g v d e = e
+
+pointwise : (rows : List SessionSites) (k : ℕ) (r : SessionSites) (f : World → Option Site) → k < length rows → ((v : World) → site_in r v ≡ f v) → (z : ℕ) (v : World) → site_at (slice_set rows k r) z v ≡ at_session (suc k) f (site_at rows) z v
+pointwise rows k r f h e zero v = rw (eqb-zero-suc k) refl
+pointwise rows k r f h e (suc j) v = rw (eqb-suc-suc j k) (at-place rows k j r v h ∙ by-session (j == k) (site_in r v) (site_of_row (slice_get rows j) v) f (site_at rows (suc j)) v (e v) refl)
+
+in-world : (w v : World) (x : Option Site) (r : SessionSites) → w ≢ Any → site_in (with_site_in w x r) v ≡ at_world w x (site_in r) v
+in-world Home Home x r h = refl
+in-world Home Server x r h = refl
+in-world Home Any x r h = refl
+in-world Server Home x r h = refl
+in-world Server Server x r h = refl
+in-world Server Any x r h = refl
+in-world Any v x r h = absurd (h refl)
+
+found : (rows : List SessionSites) (k : ℕ) (r : SessionSites) → k < length rows → r ≡ get_or rows k r → slice_get rows k ≡ Some r
+found [] k r h e = absurd (omega (arith, h))
+found (x ∷ rows) zero r h e = ap Some (sym e)
+found (x ∷ rows) (suc k) r h e = found rows k r (omega (arith, h)) e
+
+pub the-row : (rows : List SessionSites) (s k : ℕ) (r : SessionSites) (w : World) → (1 ≤ s) × (s ≤ length rows) → k ≡ s - 1 → r ≡ get_or rows k r → site_at rows s w ≡ site_in r w
+the-row rows s k r w h e g =
+    let next : s ≡ suc k = omega (arith, h.0, e) in
+    let within : k < length rows = omega (arith, h.0, h.1, e) in
+    rw next (ap (λ (o : Option SessionSites). site_of_row o w) (found rows k r within g))
+
+-- the row of a session is changed at a world
+pub changed : (rows : List SessionSites) (s k : ℕ) (w : World) (x : Option Site) (old new : SessionSites) → (1 ≤ s) × (s ≤ length rows) → w ≢ Any → k ≡ s - 1 → old ≡ get_or rows k old → new ≡ with_site_in w x old → site_at (slice_set rows k new) ≡ with_site_at s w x (site_at rows)
+changed rows s k w x old new h n e g c =
+    let next : s ≡ suc k = omega (arith, h.0, e) in
+    let within : k < length rows = omega (arith, h.0, h.1, e) in
+    let row : (v : World) → site_at rows s v ≡ site_in old v = λ v. the-row rows s k old v h e g in
+    let f : World → Option Site = at_world w x (site_at rows s) in
+    let same : (v : World) → site_in new v ≡ f v = λ v. ap (λ (r : SessionSites). site_in r v) c ∙ (in-world w v x old n ∙ sym (ap (λ (q : World → Option Site). at_world w x q v) (λ i. λ u. row u i))) in
+    subst (λ (z : ℕ). site_at (slice_set rows k new) ≡ at_session z f (site_at rows)) (sym next) (λ i. λ z. λ v. pointwise rows k new f within same z v i)
