@@ -8,3 +8,5 @@ pub mod Silence
 pub mod Turns
 pub mod ClosedBoard
 pub mod ClosedTurns
+pub mod FirstTurns
+pub mod PlainRuns
