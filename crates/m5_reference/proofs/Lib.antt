@@ -10,3 +10,4 @@ pub mod ClosedBoard
 pub mod ClosedTurns
 pub mod FirstTurns
 pub mod PlainRuns
+pub mod Finished
