@@ -11,3 +11,4 @@ pub mod ClosedTurns
 pub mod FirstTurns
 pub mod PlainRuns
 pub mod Finished
+pub mod Claims
