@@ -12,3 +12,4 @@ pub mod FirstTurns
 pub mod PlainRuns
 pub mod Finished
 pub mod Claims
+pub mod NeverStuck
