@@ -4,6 +4,7 @@ use Rattle.std.specs.Prelude.{slice_get}
 use Rattle.m5_terms.specs.Expression.{Expression, leaf, unary}
 use Rattle.m5_terms.specs.declared.types.World.{World}
 use Rattle.m5_terms.specs.declared.types.World.TheVariants.{Any}
+use Rattle.m5_terms.specs.declared.ask.Cause.{Cause}
 use Rattle.m5_terms.specs.declared.ask.Cause.TheVariants.{Table}
 use Rattle.m5_terms.specs.declared.form.LeafForm.TheVariants as leaf_form
 use Rattle.m5_terms.specs.declared.form.UnaryForm.TheVariants as unary_form
@@ -11,7 +12,7 @@ use Rattle.m5_terms.specs.declared.thread.Frame.{Frame}
 use Rattle.m5_terms.specs.declared.thread.Frame.TheVariants.{Part, Return}
 use Rattle.m5_terms.specs.declared.thread.Focus.{Focus}
 use Rattle.m5_terms.specs.declared.thread.Focus.TheVariants.{Eval, Returned}
-use Rattle.m5_terms.specs.Machine.{goes, asks, wrong}
+use Rattle.m5_terms.specs.Machine.{asks}
 use Rattle.m5_terms.specs.Asks.{Reply, take, stop, message}
 use Rattle.m5_meaning.specs.Parts.{parts, fill}
 use Rattle.m5_meaning.specs.Site.{Program, Thread, Site, Item, raw}
@@ -87,6 +88,14 @@ front-looks P u s (t ∷ ts) r e = absurd (subst IsActive e (focused-active P u 
 -- a site that looks for something new takes it
 pub looks : (P : Program) (u : World) (s : Site) (r : Reply Item → Option Site) → site_next P u s ≡ asks take r → r ≡ after_take u s
 looks P u s r e = front-looks P u s s.threads r e
+
+front-stops : (P : Program) (u : World) (s : Site) (ts : List Thread) (c : Cause) (r : Reply Item → Option Site) → front P u s ts ≡ asks (stop c) r → c ≡ Table
+front-stops P u s [] c r e = cc
+front-stops P u s (t ∷ ts) c r e = subst IsActive e (focused-active P u s ts t.frames t.focus)
+
+-- a site asks to stop by a full table alone
+pub stops-by-table : (P : Program) (u : World) (s : Site) (c : Cause) (r : Reply Item → Option Site) → site_next P u s ≡ asks (stop c) r → c ≡ Table
+stops-by-table P u s c r e = front-stops P u s s.threads c r e
 
 not-none : (x y : Site) → None ≡ Some x → y ≡ x
 not-none x y e = cc

@@ -11,3 +11,9 @@ pub mod ClosedTurns
 pub mod Rows
 pub mod SiteMaps
 pub mod TakenTurns
+pub mod FirstTurns
+pub mod PlainRuns
+pub mod Finished
+pub mod Claims
+pub mod NeverStuck
+pub mod TurnLists
