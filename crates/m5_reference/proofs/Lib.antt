@@ -17,3 +17,5 @@ pub mod Finished
 pub mod Claims
 pub mod NeverStuck
 pub mod TurnLists
+pub mod OpenedRuns
+pub mod WholeRuns

@@ -39,17 +39,20 @@ stops-turned P S N s w x cause b e a h =
     record {
       deed = record { session = s; world = w; query = stop cause; reply = done };
       site = record (N.site s w) { stopped = true };
-      turn = ((
-        a.0,
-        inr (
-          cause,
-          record {
-            licence = record { steps = plus a.1.0 h.steps; at = h.at; comes = c.comes; has_thread = h.stop.has_thread; reached = h.stop.reached };
-            deed = refl;
-            after = ap (λ (z : Board Item). with_site s w (record (N.site s w) { stopped = true }) z N) e;
-          },
+      turn = (
+        (
+          a.0,
+          inr (
+            cause,
+            record {
+              licence = record { steps = plus a.1.0 h.steps; at = h.at; comes = c.comes; has_thread = h.stop.has_thread; reached = h.stop.reached };
+              deed = refl;
+              after = ap (λ (z : Board Item). with_site s w (record (N.site s w) { stopped = true }) z N) e;
+            },
+          ),
         ),
-      ), inl (cause, refl, record { steps = plus a.1.0 h.steps; at = h.at; comes = c; stop = h.stop; order = h.order }));
+        inl (cause, refl, record { steps = plus a.1.0 h.steps; at = h.at; comes = c; stop = h.stop; order = h.order }),
+      );
       ahead = refl;
       entry = refl;
     }
@@ -61,20 +64,23 @@ asks-turned P S N s w x y k q b (turned.Acts left shown) a f n h =
     record {
       deed = record { session = s; world = w; query = q; reply = (answer_of N.board s w q).reply };
       site = h.site;
-      turn = ((
-        a.0,
-        inl (record {
-          resume = resumed P w y k;
-          next = record { steps = plus a.1.0 f.steps; waiting = f.waiting; comes = c.comes; asking = f.asking };
-          session = refl;
-          world = refl;
-          reply = refl;
-          told = h.told;
-          site = h.site;
-          resumed = h.resumed;
-          after = ap (λ (z : Board Item). with_site s w h.site z N) n;
-        }),
-      ), inr (resumed P w y k, record { steps = plus a.1.0 f.steps; waiting = f.waiting; comes = c; free = f.free; asking = f.asking }));
+      turn = (
+        (
+          a.0,
+          inl (record {
+            resume = resumed P w y k;
+            next = record { steps = plus a.1.0 f.steps; waiting = f.waiting; comes = c.comes; asking = f.asking };
+            session = refl;
+            world = refl;
+            reply = refl;
+            told = h.told;
+            site = h.site;
+            resumed = h.resumed;
+            after = ap (λ (z : Board Item). with_site s w h.site z N) n;
+          }),
+        ),
+        inr (resumed P w y k, record { steps = plus a.1.0 f.steps; waiting = f.waiting; comes = c; free = f.free; asking = f.asking }),
+      );
       ahead = subst (IsAhead P S w h.site) (sym h.left_is) (kept-ahead P S w h.site);
       entry = ap entry (sym h.act_is);
     }
@@ -85,14 +91,17 @@ asks-turned P S N s w x y k q b (turned.Rests z) a f n h =
     let silent : (answer_of N.board s w take).reply ≡ nothing = subst (λ (p : Query Item). (answer_of N.board s w p).reply ≡ nothing) look h.0 in
     let same : z ≡ f.waiting = h.1 ∙ same-wait P w y f.waiting k (looks P w f.waiting (resumed P w y k) asking) in
     record {
-      turn = ((
-        refl,
-        inl (record {
-          resume = resumed P w y k;
-          next = record { steps = plus a.1.0 f.steps; waiting = f.waiting; comes = c.comes; asking = asking };
-          nothing_there = silent;
-        }),
-      ), inl (inr (resumed P w y k, record { steps = plus a.1.0 f.steps; waiting = f.waiting; comes = c; free = f.free; asking = asking })));
+      turn = (
+        (
+          refl,
+          inl (record {
+            resume = resumed P w y k;
+            next = record { steps = plus a.1.0 f.steps; waiting = f.waiting; comes = c.comes; asking = asking };
+            nothing_there = silent;
+          }),
+        ),
+        inl (inr (resumed P w y k, record { steps = plus a.1.0 f.steps; waiting = f.waiting; comes = c; free = f.free; asking = asking })),
+      );
       same = n ∙ (ap (λ (p : Query Item). (answer_of N.board s w p).board) look ∙ stays N.board s w silent);
       ahead = (a.0, (plus a.1.0 f.steps, subst (ComesFree P S w (plus a.1.0 f.steps) (N.site s w)) (sym same) c));
     }

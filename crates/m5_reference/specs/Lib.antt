@@ -5,6 +5,7 @@ pub mod Moments
 pub mod OpeningLists
 pub mod SiteRows
 pub mod Running
+pub mod Finishing
 pub mod Ahead
 pub mod Turning
 pub mod ClosedTurn

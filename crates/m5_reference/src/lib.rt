@@ -4,6 +4,8 @@
 
 pub mod moment;
 pub mod opening;
+pub mod rounds;
+pub mod run;
 pub mod running;
 pub mod sites;
 #[cfg(test)]

@@ -26,7 +26,7 @@ returns-in_ok-push-in-Acts-clause-ready c =
     record {
       count = count;
       ready = ready-back c.args.name c.in-Acts.left c.args.running.now (record { rows = c.take_site.new.rows; board = c.args.running.now.board; entries = c.args.running.now.entries }) _ c.requires.ready c.take_site.ensures.left c.put_site.ensures.put
-        (rw c.in-Acts.is at (c.in_ok-left.ensures.closed c.requires.ready.links)) count c.turn.ensures.count (c.in_ok-left.ensures.closed_board c.requires.ready.links);
+          (rw c.in-Acts.is at (c.in_ok-left.ensures.closed c.requires.ready.links)) count c.turn.ensures.count (c.in_ok-left.ensures.closed_board c.requires.ready.links);
     }
 
 pub returns-in-Rests-clause-turned : goal.returns-in-Rests-clause-turned
@@ -42,7 +42,7 @@ returns-in-Rests-clause-ready c =
     record {
       count = count;
       ready = ready-back c.args.name (Some c.in-Rests.site) c.args.running.now (record { rows = c.take_site.new.rows; board = c.args.running.now.board; entries = c.args.running.now.entries }) _ c.requires.ready c.take_site.ensures.left c.put_site-in-Rests.ensures.put
-        (rw c.in-Rests.is at (c.in_ok-left.ensures.closed c.requires.ready.links)) count c.turn.ensures.count (c.in_ok-left.ensures.closed_board c.requires.ready.links);
+          (rw c.in-Rests.is at (c.in_ok-left.ensures.closed c.requires.ready.links)) count c.turn.ensures.count (c.in_ok-left.ensures.closed_board c.requires.ready.links);
     }
 
 pub returns-in-Wrong-clause-turned : goal.returns-in-Wrong-clause-turned

@@ -1,39 +1,48 @@
-use Rattle.std.proofs.Common.{rules, ◌<◌, ◌^◌, length, All, IfOk, ◌≡◌, ℕ, ◌+◌, ◌-◌, ◌*◌, ◌≤◌, ◌/◌, ◌%◌, Bool, true, false, nat_eq, nat_lt, List, [], ◌∷◌, ◌++◌, slice_index_or, slice_set, bit_and, bit_or, Fits, w8, w32, w64, Bor, MutBor}
-use Rattle.m5_script.specs.Scenario.{Scenario}
-use Rattle.m5_network.specs.Run.{Network, IsSite}
-use Rattle.m5_source_site.specs.ClosedSite.{IsClosedProgram}
-use Rattle.m5_reference.specs.Moments.{HasLimits}
-use Rattle.m5_reference.specs.Running.{StandsFor, IsReady, IsNamed, StaysReady, TurnEnds, TurnsEnd}
+use Rattle.std.proofs.Common.{List, length, take, All, get_or, refl, subst, ◌∙◌}
+use Rattle.std.proofs.lemmas.List.Elements.{All-get_or}
+use Rattle.std.proofs.lemmas.List.{take_all}
+use Rattle.m5_terms.specs.declared.types.World.TheVariants.{Home}
+use Rattle.m5_script.specs.declared.items.SiteName.{SiteName}
+use Rattle.m5_network.specs.Run.{IsSite}
+use Rattle.m5_reference.specs.Running.{IsNamed, TakesTurns}
+use Rattle.m5_reference.proofs.TurnLists.{no-turns, next-turn, stuck-there}
 use Rattle.m5_reference.proofs.running.take_turns.Goals as goal
 
--- src/running.rt:88:5
+-- what a list gives past its end
+abbrev past : SiteName
+past = record { session = 0; world = Home }
+
 pub turns-init : goal.turns-init
-turns-init c = ?
+turns-init c = (record { count = refl; ready = c.requires.ready }, λ S N l h a. no-turns c.args.rules.now S N c.args.running.now h)
 
--- src/running.rt:89:15
 pub take_turn-requires-clause-ready : goal.take_turn-requires-clause-ready
-take_turn-requires-clause-ready c = ?
+take_turn-requires-clause-ready c = c.turns.invariant.0.ready
 
--- src/running.rt:89:15
 pub take_turn-requires-clause-name : goal.take_turn-requires-clause-name
-take_turn-requires-clause-name c = ?
+take_turn-requires-clause-name c = rw c.turns.invariant.0.count (All-get_or (IsNamed (length c.args.running.now.rows.items)) c.args.names.now c.turns.name-index past c.turns-test.true c.requires.names)
 
--- src/running.rt:91:29
 pub returns-in-Wrong-clause-turned : goal.returns-in-Wrong-clause-turned
-returns-in-Wrong-clause-turned c = ?
+returns-in-Wrong-clause-turned c = λ S N l h a.
+    let before = c.turns.invariant.1 S N l h a in
+    let site = All-get_or (λ (x : SiteName). IsSite S x.session x.world) c.args.names.now c.turns.name-index past c.turns-test.true a in
+    stuck-there c.args.rules.now S N c.args.names.now c.turns.name-index (get_or c.args.names.now c.turns.name-index past) c.args.running.now c.turns.running a site before
+    (rw c.in-Wrong.is at (c.in_ok-take_turn.ensures.turned S before.after l before.made.stands site))
 
--- src/running.rt:91:29
 pub returns-in-Wrong-clause-ready : goal.returns-in-Wrong-clause-ready
-returns-in-Wrong-clause-ready c = ?
+returns-in-Wrong-clause-ready c = record { count = c.in_ok-take_turn.ensures.ready.count ∙ c.turns.invariant.0.count; ready = c.in_ok-take_turn.ensures.ready.ready }
 
--- src/running.rt:88:5
 pub turns-preserved : goal.turns-preserved
-turns-preserved c = ?
+turns-preserved c = (
+  record { count = c.in_ok-take_turn.ensures.ready.count ∙ c.turns.invariant.0.count; ready = c.in_ok-take_turn.ensures.ready.ready },
+  λ S N l h a.
+      let before = c.turns.invariant.1 S N l h a in
+      let site = All-get_or (λ (x : SiteName). IsSite S x.session x.world) c.args.names.now c.turns.name-index past c.turns-test.true a in
+      next-turn c.args.rules.now S N c.args.names.now c.turns.name-index past c.args.running.now c.turns.running c.take_turn.new.running c.turns-test.true before
+      (rw c.in-On.is at (c.in_ok-take_turn.ensures.turned S before.after l before.made.stands site)),
+)
 
--- src/running.rt:73:1
 pub returns-clause-turned : goal.returns-clause-turned
-returns-clause-turned c = ?
+returns-clause-turned c = λ S N l h a. subst (λ (xs : List SiteName). TakesTurns c.args.rules.now S N xs c.args.running.now c.turns.running) (take_all c.turns.name-index c.args.names.now c.turns-test.false) (c.turns.invariant.1 S N l h a)
 
--- src/running.rt:73:1
 pub returns-clause-ready : goal.returns-clause-ready
-returns-clause-ready c = ?
+returns-clause-ready c = c.turns.invariant.0

@@ -1,0 +1,61 @@
+//! Rounds over all sites, until one finds nothing.
+
+ghost use Rattle.std.specs.Prelude.{◌≡◌, ◌<◌, ◌^◌, length, All, IfOk};
+ghost use Rattle.m5_script.specs.Scenario.{Scenario};
+ghost use Rattle.m5_network.specs.Plain.{sites_of};
+ghost use Rattle.m5_network.specs.Run.{Network, IsSite};
+ghost use Rattle.m5_source_site.specs.ClosedSite.{IsClosedProgram};
+ghost use Rattle.m5_reference.specs.Moments.{HasLimits};
+ghost use Rattle.m5_reference.specs.Running.{StandsFor, IsReady, IsNamed, StaysReady, RoundsEnd};
+
+use crate::moment::Limits;
+use crate::running::{Going, Running, take_turns};
+use m5_script::items::SiteName;
+use m5_source_site::rules::Rules;
+use m5_terms::types::World;
+use std::alloc::{AllocError, Global};
+
+/// The sites of so many sessions, by number.
+pub fn all_sites(alloc: Global, sessions: u32) -> Result<Vec<SiteName>, AllocError>
+    ensures { IfOk result (λ v. v.items ≡ sites_of sessions) }
+{
+    let mut names = Vec::new(alloc);
+    for before in 0..sessions {
+        let session = before + 1;
+        let world = World::Home;
+        names.push(SiteName { session, world })?;
+        let world = World::Server;
+        names.push(SiteName { session, world })?;
+    }
+    Ok(names)
+}
+
+/// Rounds of turns of these sites, until one makes no deed. Each round but the last makes the
+/// history longer, so no memory holds more rounds than are counted here.
+pub fn take_rounds(
+    alloc: Global,
+    rules: &Rules<'_>,
+    limits: Limits,
+    running: &mut Running,
+    names: &[SiteName],
+) -> Result<Going, AllocError>
+    requires steps { limits.steps < 2 ^ 62 }
+    requires region { limits.region < 2 ^ 62 }
+    requires program { IsClosedProgram rules.now }
+    requires ready { IsReady running.old }
+    requires names { All (IsNamed (length running.old.rows.items)) names.now }
+    ensures turned { (S : Scenario) (N : Network) → HasLimits S limits → StandsFor rules.now S running.old N → All (λ (x : SiteName). IsSite S x.session x.world) names.now → IfOk result (RoundsEnd rules.now S N names.now running.old running.new) }
+    ensures ready { IfOk result (λ g. StaysReady running.old running.new) }
+{
+    'rounds: for _round in 0..u64::MAX {
+        let before = running.entries.count();
+        match take_turns(alloc, rules, limits, running, names)? {
+            Going::On => {}
+            Going::Wrong => return Ok(Going::Wrong),
+        }
+        if running.entries.count() == before {
+            return Ok(Going::On);
+        }
+    }
+    Err(AllocError)
+}
