@@ -13,10 +13,11 @@ use Rattle.m5_typing.specs.Context.{CellTypes, Context, Setting, nothing, type_a
 use Rattle.m5_typing.specs.Typing.{Typed}
 use Rattle.m5_typing.specs.Laws.{Extends}
 use Rattle.m5_typing.proofs.Weaken.{weaken}
+use Rattle.m5_terms.specs.Asks.{Reply, message}
 use Rattle.m5_meaning.specs.Site.{Thread, Site, Item, thread, raw}
 use Rattle.m5_sound.specs.Settings.{with_cells, Grows, GrowsAt}
 use Rattle.m5_sound.specs.Threads.{Fits, FramesTyped, FocusTyped, ThreadTyped}
-use Rattle.m5_sound.specs.Sites.{ValueTyped, CellsTyped, HandlerTyped, SiteTyped, ItemTyped}
+use Rattle.m5_sound.specs.Sites.{ValueTyped, CellsTyped, HandlerTyped, SiteTyped, ItemTyped, ReplyTyped}
 use Rattle.m5_sound.proofs.Worlds.{by-world}
 
 type-stays : (As Bs : List TypeExpression) (n : ℕ) (A : TypeExpression) → type_at As n ≡ Some A → type_at (As ++ Bs) n ≡ Some A
@@ -86,6 +87,10 @@ threads-grown E F m u ts t = each-map (ThreadTyped E u) (ThreadTyped F u) (threa
 pub item-grown : (E F : Setting) → Extends E F → (u : World) (i : Item) → ItemTyped E u i → ItemTyped F u i
 item-grown E F m u (thread t) d = thread-grown E F m u t d
 item-grown E F m u (raw bytes) d = d
+
+pub reply-grown : (E F : Setting) → Extends E F → (u : World) (r : Reply Item) → ReplyTyped E u r → ReplyTyped F u r
+reply-grown E F m u (message v i) d = item-grown E F m u i d
+reply-grown E F m u _ d = d
 
 pub items-grown : (E F : Setting) → Extends E F → (u : World) (is : List Item) → Each (ItemTyped E u) is → Each (ItemTyped F u) is
 items-grown E F m u is d = each-map (ItemTyped E u) (ItemTyped F u) (item-grown E F m u) is d

@@ -9,6 +9,7 @@ pub mod Steps
 pub mod Boards
 pub mod SiteTexts
 pub mod Networks
+pub mod Soundness
 pub mod AllTexts
 pub mod Counts
 pub mod Progress

@@ -101,7 +101,7 @@ pub record StepTyped (P : Program) (T : ℕ → CellTypes) (d : Deed Item) (M : 
 grows-one : (T : ℕ → CellTypes) (s : ℕ) (L : CellTypes) → Grows (T s) L → (z : ℕ) → Grows (T z) (at_session s L T z)
 grows-one T s L g z = at-each (λ z K. Grows (T z) K) s L T g (λ z. grows-self (T z)) z
 
-some-inj : (a b : Site) → Some a ≡ Some b → a ≡ b
+pub some-inj : (a b : Site) → Some a ≡ Some b → a ≡ b
 some-inj a b e = cc
 
 -- a typed site's next ask, and the board's answer to it
@@ -251,7 +251,7 @@ all-stays P S ps ds N s w x c =
     let k = reached P S ps ds N s w x c in
     (at_session s k.comes.to k.of, placed P k.of N s w k.comes.to x N.board k.comes.grows k.comes.typed k.network (board-grown P k.of s k.comes.to N.board k.comes.grows.0 (board-of P k.of N k.network)))
 
-not-wrong : (E : Setting) (u : World) (x : SiteNext) → NextTyped E u x → x ≢ wrong
+pub not-wrong : (E : Setting) (u : World) (x : SiteNext) → NextTyped E u x → x ≢ wrong
 not-wrong E u (goes s) t e = cc
 not-wrong E u (asks q f) t e = cc
 not-wrong E u wrong t e = t.typed

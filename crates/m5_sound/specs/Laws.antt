@@ -7,7 +7,7 @@ use Rattle.m5_terms.specs.declared.ask.Cause.{Cause}
 use Rattle.m5_terms.specs.declared.ask.Entry.{Entry}
 use Rattle.m5_typing.specs.Context.{CellTypes}
 use Rattle.m5_typing.specs.Program.{IsProgram}
-use Rattle.m5_terms.specs.Machine.{wrong}
+use Rattle.m5_terms.specs.Machine.{wrong, IsSound}
 use Rattle.m5_meaning.specs.Site.{Program, Thread, Site, Item}
 use Rattle.m5_meaning.specs.Step.{site_next}
 use Rattle.m5_script.specs.Scenario.{Scenario, IsScript}
@@ -18,11 +18,20 @@ use Rattle.m5_network.specs.Run.{Network, Place, IsSite, IsAtRest, Step, Run}
 use Rattle.m5_sound.specs.Settings.{setting, Grows}
 use Rattle.m5_sound.specs.Sites.{SiteTyped, NextTyped}
 use Rattle.m5_sound.specs.Networks.{NetworkTyped, ComesTo, moved}
+use Rattle.m5_sound.specs.SourceMachine.{source_machine}
 use Rattle.m5_sound.specs.Texts.{SiteHasTexts, DeedHasTexts, ActHasTexts, BoardHasTexts, LinkHasTexts}
 
 -- what a typed site does next is a step to a typed site or a typed ask
 abbrev pub TypedSitesGoOn : Type 0
 TypedSitesGoOn = (P : Program) (L : CellTypes) (u : World) (x : Site) → IsProgram P → u ≢ Any → SiteTyped (setting P L) u x → NextTyped (setting P L) u (site_next P u x)
+
+-- and no lawful answers ever lead it to where the rules allow nothing
+abbrev pub TypedSitesAreSound : Type 0
+TypedSitesAreSound = (P : Program) (L : CellTypes) (w : World) (s : Site) → IsProgram P → w ≢ Any → SiteTyped (setting P L) w s → IsSound (source_machine P w) s
+
+-- so it is with each site of a program's opening
+abbrev pub OpeningIsSound : Type 0
+OpeningIsSound = (P : Program) (S : Scenario) (s : ℕ) (w : World) → IsProgram P → IsScript S → w ≢ Any → IsSound (source_machine P w) ((opening P S).site s w)
 
 -- a program's opening is typed, with no cells
 abbrev pub OpeningIsTyped : Type 0

@@ -3,4 +3,5 @@ pub mod Threads
 pub mod Sites
 pub mod Networks
 pub mod Texts
+pub mod SourceMachine
 pub mod Laws

@@ -1,7 +1,7 @@
 -- A pass that owes its diagram at no state keeps behaviours, and a sound input is kept fully.
-use Rattle.std.proofs.Common.{◌≡◌, ◌⊎◌, ℕ, zero, suc, inl, inr, ⊎_elim, List, [], ◌∷◌, Option, refl, sym, subst}
+use Rattle.std.proofs.Common.{◌⊎◌, ℕ, zero, suc, inl, inr, ⊎_elim, List, [], ◌∷◌, refl, sym, subst}
 use Rattle.m5_terms.specs.Machine.{Comes, Machine, Exchange, Exchanges, Behaves, GoesWrong, Fails, IsSound}
-use Rattle.m5_terms.specs.Keeping.{Reading, ReadsBack, Entry, AsksToo, Meets, IsFollowed, Follows, Keeps, FollowsFully, KeepsFully}
+use Rattle.m5_terms.specs.Keeping.{Reading, ReadsBack, Entry, Meets, IsFollowed, Follows, Keeps, FollowsFully, KeepsFully}
 use Rattle.m5_terms.specs.Diagram.{Fitting, Reaches, AnswersToo, Diagram}
 
 -- local steps and then more of them

@@ -1,6 +1,6 @@
 -- Two passes that keep behaviours, one after the other, keep them too.
-use Rattle.std.proofs.Common.{◌≡◌, ◌⊎◌, ◌≤◌, inl, inr, ⊎_elim, List, [], ◌∷◌, IsTrue, sym, ◌∙◌, subst}
-use Rattle.m5_terms.specs.Machine.{Machine, Exchange, GoesWrong, Fails}
+use Rattle.std.proofs.Common.{◌⊎◌, ◌≤◌, inl, inr, ⊎_elim, List, [], ◌∷◌, IsTrue, sym, ◌∙◌, subst}
+use Rattle.m5_terms.specs.Machine.{Machine, Exchange, Fails}
 use Rattle.m5_terms.specs.Keeping.{Reading, then_reads, ReadsBack, Entry, AtLeast, Same, AsksToo, Meets, IsFollowed, Follows, Keeps}
 
 module _ (A B C : Machine) (R : Reading A B) (Q : Reading B C) where

@@ -1,6 +1,6 @@
 -- What it means that a pass keeps the behaviours of its input, and what it owes for that at one state.
-use Rattle.std.specs.Prelude.{◌≡◌, ◌≤◌, ◌⊎◌, ℕ, List, [], ◌∷◌, Option, Some, IsTrue}
-use Rattle.m5_terms.specs.Machine.{goes, asks, wrong, Comes, Machine, Exchange, Behaves, GoesWrong, Fails}
+use Rattle.std.specs.Prelude.{◌≡◌, ◌≤◌, ◌⊎◌, ℕ, List, [], ◌∷◌, Option, IsTrue}
+use Rattle.m5_terms.specs.Machine.{asks, Comes, Machine, Exchange, Behaves, GoesWrong, Fails}
 
 -- which states, asks and answers of the input those of the output are read back to
 pub record Reading (Input Output : Machine) : Type 1 where

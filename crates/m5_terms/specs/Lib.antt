@@ -15,3 +15,4 @@ pub mod Asks
 pub mod Machine
 pub mod Keeping
 pub mod Diagram
+pub mod CountsDown

@@ -1,7 +1,11 @@
 //! Each call that takes memory, with memory to spare, and what no clause spells out.
 
+ghost use Rattle.m5_terms.specs.Keeping.{AtLeast};
+ghost use Rattle.m5_terms.specs.CountsDown.{counts, less_one, sooner, owes_nothing};
+
 use crate::ask::{Answer, Ask, Numbers};
 use crate::form::{BinaryForm, LeafForm, UnaryForm};
+use crate::keeping;
 use crate::listed::Listed;
 use crate::node::{Node, NodeBox};
 use crate::opened::{LeafView, Opened};
@@ -82,4 +86,39 @@ fn knows_the_primitives(rt: HostRuntime) -> Result<(), Fail> {
         [0x4d, 0x4c, 0x35, 0x73, 1, 2, 3, 4]
     );
     Ok(())
+}
+
+struct ByTwo;
+
+impl keeping::Pass for ByTwo {
+    ghost input = { counts (λ n. n) };
+
+    ghost output = { counts less_one };
+
+    ghost reading = { sooner (λ n. n) less_one };
+
+    ghost fitting = { λ t s n m. Unit {0} };
+
+    ghost entry = { AtLeast (counts (λ n. n)) (counts less_one) };
+
+    ghost diagram = { owes_nothing };
+}
+
+impl keeping::TwoPasses for ByTwo {
+    ghost first = { counts (λ n. n) };
+
+    ghost second = { counts less_one };
+
+    ghost third = { counts less_one };
+
+    ghost over = { sooner (λ n. n) less_one };
+
+    ghost under = { sooner less_one less_one };
+}
+
+#[test]
+fn counting_by_two_keeps_behaviours(_rt: HostRuntime) {
+    keeping::diagram_keeps_holds::<ByTwo>();
+    keeping::sound_input_is_kept_holds::<ByTwo>();
+    keeping::two_passes_keep_holds::<ByTwo>();
 }

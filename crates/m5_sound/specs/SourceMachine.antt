@@ -1,0 +1,42 @@
+-- A program's site as a machine: what it does next, and which answers may come where it asks.
+use Rattle.std.specs.Prelude.{◌≢◌, ◌<◌, ℕ, false, length, AllPairs}
+use Rattle.std.specs.List.{AllByRecursion as Each}
+use Rattle.m5_terms.specs.declared.types.World.{World}
+use Rattle.m5_typing.specs.Context.{CellTypes}
+use Rattle.m5_terms.specs.Machine.{asks, Machine}
+use Rattle.m5_terms.specs.Asks.{Query, Reply, fired, event}
+use Rattle.m5_meaning.specs.Site.{Program, Site, Item}
+use Rattle.m5_meaning.specs.Step.{SiteNext, site_next}
+use Rattle.m5_sound.specs.Settings.{setting}
+use Rattle.m5_sound.specs.Sites.{SiteTyped, ReplyTyped, IsAnswer}
+
+-- an answer comes only where the site asks, and is of a kind that the ask may get
+abbrev pub IsAnswerTo : SiteNext → Reply Item → Type 0
+IsAnswerTo (asks q resume) r = IsAnswer q r
+IsAnswerTo _ r = ⊥
+
+-- of so many handlers, a trigger names one, and an event names any of them, none twice
+abbrev pub NamesHandlers : ℕ → Reply Item → Type 0
+NamesHandlers n (fired k i t) = i < n
+NamesHandlers n (event e is t) = Each (λ i. i < n) is × AllPairs (λ i j. i ≢ j) is
+NamesHandlers n _ = Unit {0}
+
+-- which answers may come: site and answer are typed by the same types of cells, so that a thread that comes may use the cells
+pub record IsLawful (P : Program) (w : World) (s : Site) (r : Reply Item) : Type 0 where
+  pub cells : CellTypes
+  pub site : SiteTyped (setting P cells) w s
+  pub typed : ReplyTyped (setting P cells) w r
+  pub fits : IsAnswerTo (site_next P w s) r
+  pub numbers : NamesHandlers (length s.handlers) r
+
+-- a site at w by the meaning; it has no blocks, so it enters none
+abbrev pub source_machine : Program → World → Machine
+source_machine P w = record {
+  State = Site;
+  Ask = Query Item;
+  Answer = Reply Item;
+  next = site_next P w;
+  lawful = IsLawful P w;
+  count = λ s. s.steps;
+  enters = λ s. false;
+}
