@@ -1,7 +1,8 @@
 -- The code's run stands for the opening, and its sites and its board have no free variables.
 use Rattle.std.proofs.Common.{◌≡◌, ◌≢◌, ℕ, zero, suc, ◌<◌, ◌≤◌, List, [], ◌∷◌, length, map, filter, Option, Some, None, All, refl, sym, ap, subst, ◌∙◌, arith}
 use Rattle.std.specs.Prelude.{slice_get, replicate}
-use Rattle.std.proofs.lemmas.List.{length-replicate}
+use Rattle.std.proofs.lemmas.List.{length-replicate, get_or-replicate}
+use Rattle.std.proofs.lemmas.Option.{slice_get-get_or}
 use Rattle.std.proofs.lemmas.List.Elements.{All-nil, All-cons, All-map}
 use Rattle.m5_terms.specs.declared.types.World.{World}
 use Rattle.m5_terms.specs.declared.types.World.TheVariants.{Home, Server, Any}
@@ -28,9 +29,9 @@ use Rattle.m5_reference.proofs.Freely.{begin_free}
 
 -- each of the copies is the one that was copied
 copied : {A : Type 0} (n k : ℕ) (x : A) → k < n → slice_get (replicate n x) k ≡ Some x
-copied zero k x h = absurd (omega (arith, h))
-copied (suc n) zero x h = refl
-copied (suc n) (suc k) x h = copied n k x (omega (arith, h))
+copied n k x h =
+    let within : k < length (replicate n x) = rw (length-replicate n x) h in
+    slice_get-get_or (replicate n x) k x within ∙ ap Some (get_or-replicate n k x x h)
 
 in-row : (P : Program) (S : Scenario) (w : World) → w ≢ Any → IsAhead P S w (opening_site (opening_threads P w)) (site_in (sites_opened P) w)
 in-row P S Home n = (refl, (0, begin_free P S Home (opening_site (opening_threads P Home))))

@@ -1,6 +1,7 @@
 -- One site of a row is changed.
 use Rattle.std.proofs.Common.{◌≡◌, ◌≢◌, ℕ, zero, suc, ◌-◌, ◌<◌, ◌≤◌, ◌==◌, Bool, true, false, List, [], ◌∷◌, length, get_or, Option, Some, None, refl, sym, ap, subst, ◌∙◌, if◌then◌else◌, arith}
 use Rattle.std.specs.Prelude.{slice_get, slice_set}
+use Rattle.std.proofs.lemmas.Option.{slice_get-get_or}
 use Rattle.std.proofs.Math.Dec.{eqb-suc-zero, eqb-zero-suc, eqb-suc-suc}
 use Rattle.m5_terms.specs.declared.types.World.{World}
 use Rattle.m5_terms.specs.declared.types.World.TheVariants.{Home, Server, Any}
@@ -35,16 +36,11 @@ in-world Server Server x r h = refl
 in-world Server Any x r h = refl
 in-world Any v x r h = absurd (h refl)
 
-found : (rows : List SessionSites) (k : ℕ) (r : SessionSites) → k < length rows → r ≡ get_or rows k r → slice_get rows k ≡ Some r
-found [] k r h e = absurd (omega (arith, h))
-found (x ∷ rows) zero r h e = ap Some (sym e)
-found (x ∷ rows) (suc k) r h e = found rows k r (omega (arith, h)) e
-
 pub the-row : (rows : List SessionSites) (s k : ℕ) (r : SessionSites) (w : World) → (1 ≤ s) × (s ≤ length rows) → k ≡ s - 1 → r ≡ get_or rows k r → site_at rows s w ≡ site_in r w
 the-row rows s k r w h e g =
     let next : s ≡ suc k = omega (arith, h.0, e) in
     let within : k < length rows = omega (arith, h.0, h.1, e) in
-    rw next (ap (λ (o : Option SessionSites). site_of_row o w) (found rows k r within g))
+    rw next (ap (λ (o : Option SessionSites). site_of_row o w) (slice_get-get_or rows k r within ∙ ap Some (sym g)))
 
 -- the row of a session is changed at a world
 pub changed : (rows : List SessionSites) (s k : ℕ) (w : World) (x : Option Site) (old new : SessionSites) → (1 ≤ s) × (s ≤ length rows) → w ≢ Any → k ≡ s - 1 → old ≡ get_or rows k old → new ≡ with_site_in w x old → site_at (slice_set rows k new) ≡ with_site_at s w x (site_at rows)

@@ -2,19 +2,8 @@
 use Rattle.std.proofs.Common.{◌≡◌, ℕ, ◌==◌, Bool, true, false, if◌then◌else◌, refl, sym, ap, subst, ◌∙◌, eqb-true, eq-eqb}
 use Rattle.m5_terms.specs.TypeExpression.{same_world}
 use Rattle.m5_terms.specs.declared.types.World.{World}
-use Rattle.m5_terms.specs.declared.types.World.TheVariants.{Home, Server, Any}
 use Rattle.m5_network.specs.Board.{at_session, at_world}
-
-pub same-worlds : (v w : World) → same_world v w ≡ true → v ≡ w
-same-worlds Home Home e = refl
-same-worlds Home Server e = cc
-same-worlds Home Any e = cc
-same-worlds Server Home e = cc
-same-worlds Server Server e = refl
-same-worlds Server Any e = cc
-same-worlds Any Home e = cc
-same-worlds Any Server e = cc
-same-worlds Any Any e = refl
+use Rattle.m5_sound.proofs.Worlds.{same-true}
 
 abbrev pub at_place : {A : Type 0} → ℕ → World → A → (ℕ → World → A) → ℕ → World → A
 at_place s w x f = at_session s (at_world w x (f s)) f
@@ -25,7 +14,7 @@ pub both-at : {A B : Type 0} (Q : ℕ → World → A → B → Type 0) (s : ℕ
 both-at {A} {B} Q s w x y f g q h z v = by-session (z == s) refl
   where
     by-world : (c : Bool) → same_world v w ≡ c → Q s v (if c then x else f s v) (if c then y else g s v)
-    by-world true e = subst (λ (u : World). Q s u x y) (sym (same-worlds v w e)) q
+    by-world true e = subst (λ (u : World). Q s u x y) (sym (same-true v w e)) q
     by-world false e = h s v
 
     by-session : (b : Bool) → (z == s) ≡ b → Q z v ((if b then at_world w x (f s) else f z) v) ((if b then at_world w y (g s) else g z) v)
@@ -41,7 +30,7 @@ pub stays-at : {A : Type 0} (s : ℕ) (w : World) (x : A) (f : ℕ → World →
 stays-at {A} s w x f e z v = by-session (z == s) refl
   where
     by-world : (c : Bool) → same_world v w ≡ c → (if c then x else f s v) ≡ f s v
-    by-world true d = subst (λ (u : World). x ≡ f s u) (sym (same-worlds v w d)) e
+    by-world true d = subst (λ (u : World). x ≡ f s u) (sym (same-true v w d)) e
     by-world false d = refl
 
     by-session : (b : Bool) → (z == s) ≡ b → (if b then at_world w x (f s) else f z) v ≡ f z v

@@ -5,7 +5,7 @@ use Rattle.m5_terms.specs.Worlds.{IsSiteWorld}
 use Rattle.m5_terms.specs.declared.types.World.{World}
 use Rattle.m5_terms.specs.declared.types.World.TheVariants.{Home, Server, Any}
 
-same-true : (v w : World) → same_world v w ≡ true → v ≡ w
+pub same-true : (v w : World) → same_world v w ≡ true → v ≡ w
 same-true Home Home e = refl
 same-true Server Server e = refl
 same-true Any Any e = refl
