@@ -1,5 +1,4 @@
-//! The run by the meaning itself: so far where it opens, the next moment of a site at which a run
-//! does something with it, and one turn of a site.
+//! The run by the meaning itself: how a script opens it, the moments of a site, turns and rounds, and the whole.
 #![tactic(auto)]
 
 pub mod moment;

@@ -1,16 +1,17 @@
-//! Where a site with one thread, which has two steps to make, is stopped, and what a script opens.
+//! Where a site with one thread, which has two steps to make, is stopped, what a script opens, and a whole run.
 
 ghost use Rattle.std.specs.Prelude.{◌<◌, ◌^◌, IfOk};
 ghost use Rattle.m5_source_site.specs.ClosedSite.{IsClosedSite, IsClosedProgram};
 
 use crate::moment::{Limits, Moment, next_moment};
 use crate::opening::{open_board, open_sites};
+use crate::run::reference_run;
 use m5_script::read::read_script;
 use m5_source_site::queue::Queue;
 use m5_source_site::rules::Rules;
 use m5_source_site::site::Site;
 use m5_source_site::thread::SiteThread;
-use m5_terms::ask::Cause;
+use m5_terms::ask::{Cause, End};
 use m5_terms::form::LeafForm;
 use m5_terms::listed::Listed;
 use m5_terms::node::Node;
@@ -76,5 +77,16 @@ fn opens_each_session(rt: HostRuntime) -> Result<(), Fail> {
     let script = read_script(alloc, SCRIPT)?;
     assert_eq!(rt; open_sites(alloc, &rules, script.sessions)?.len(), 2);
     assert_eq!(rt; open_board(alloc, &script)?.session_count(), 2);
+    Ok(())
+}
+
+#[test]
+fn rests_where_nothing_is_to_do(rt: HostRuntime) -> Result<(), Fail> {
+    let alloc = rt.alloc();
+    let program = Program::make(Listed::make(alloc), Node::leaf(LeafForm::Unit));
+    let script = read_script(alloc, b"event 1 \"send\" \"hi\"")?;
+    let history = reference_run(alloc, &program, &script)?;
+    assert_eq!(rt; history.entries.count(), 1);
+    assert!(rt; matches!(history.end, End::Rest));
     Ok(())
 }
