@@ -101,9 +101,10 @@ operated op.Cat (leaf (leaf_form.Str s)) (leaf (leaf_form.Str t)) = makes_text (
 operated op.EqStr (leaf (leaf_form.Str s)) (leaf (leaf_form.Str t)) = gives (leaf (leaf_form.Bool (bytes_eq s t)))
 operated o _ _ = wrong
 
-abbrev pub at_cell : (ℕ → Reduced) → Expression → Reduced
-at_cell f (leaf (leaf_form.CellAt w n)) = f n
-at_cell f _ = wrong
+-- a deed on a cell of the site's world; a cell of another world is out of reach
+abbrev pub at_cell : World → (ℕ → Reduced) → Expression → Reduced
+at_cell w f (leaf (leaf_form.CellAt v n)) = if same_world v w then f n else wrong
+at_cell w f _ = wrong
 
 -- a get to the world where the thread is goes on there, else the thread leaves
 abbrev pub got : World → Expression → Expression → Reduced
@@ -124,7 +125,7 @@ reduced_unary w unary_form.Snd v = second_of v
 reduced_unary w unary_form.StrOf v = text_of_number v
 reduced_unary w unary_form.Div v = divided v
 reduced_unary w unary_form.NewCell v = makes_cell v
-reduced_unary w unary_form.Load v = at_cell loads v
+reduced_unary w unary_form.Load v = at_cell w loads v
 reduced_unary w unary_form.Hold v = gives (unary (unary_form.Held w) v)
 reduced_unary w f v = gives (unary f v)
 
@@ -132,7 +133,7 @@ abbrev pub reduced_binary : Program → World → BinaryForm → Expression → 
 reduced_binary P w binary_form.Call v b = called P v b
 reduced_binary P w binary_form.Pair v b = gives (binary binary_form.Pair v b)
 reduced_binary P w binary_form.Cons v b = gives (binary binary_form.Cons v b)
-reduced_binary P w binary_form.Store v b = at_cell (λ n. stores n b) v
+reduced_binary P w binary_form.Store v b = at_cell w (λ n. stores n b) v
 reduced_binary P w (binary_form.Binary o) v b = operated o v b
 reduced_binary P w binary_form.Do v b = goes_on b
 reduced_binary P w binary_form.Get v b = got w v b

@@ -56,9 +56,15 @@ atom P s ts fs w (leaf leaf_form.Here) = goes (stepped P 0 s (thread_of fs (Retu
 atom P s ts fs w (leaf (leaf_form.Str t)) = goes (stepped P (length t) s (thread_of fs (Returned w (text_value t)) ∷ ts))
 atom P s ts fs w e = goes (stepped P 0 s (thread_of fs (Returned w e) ∷ ts))
 
+-- a load gives what the cell holds, and is wrong where the site has no such cell
 abbrev pub loaded : Program → Site → List Thread → List Frame → World → Option Expression → SiteNext
 loaded P s ts fs w None = wrong
 loaded P s ts fs w (Some v) = goes (stepped P 0 s (thread_of fs (Returned w v) ∷ ts))
+
+-- a store puts its value in the place of what the cell holds, and is wrong where the site has no such cell
+abbrev pub stored : Program → Site → List Thread → List Frame → World → ℕ → Expression → Option Expression → SiteNext
+stored P s ts fs w n v None = wrong
+stored P s ts fs w n v (Some old) = goes (record (stepped P 0 s (thread_of fs (Returned w unit_value) ∷ ts)) { cells = slice_set s.cells n v })
 
 -- after a primitive that only tells, or a send
 abbrev pub after_done : Program → Site → List Thread → Reply Item → Option Site
@@ -89,7 +95,7 @@ outcome P u s ts fs w (makes_cell v) =
     if is_full s.cells then stops_full s
     else goes (record (stepped P 0 s (thread_of fs (Returned w (leaf (leaf_form.CellAt u (length s.cells)))) ∷ ts)) { cells = s.cells ++ v ∷ [] })
 outcome P u s ts fs w (loads n) = loaded P s ts fs w (slice_get s.cells n)
-outcome P u s ts fs w (stores n v) = goes (record (stepped P 0 s (thread_of fs (Returned w unit_value) ∷ ts)) { cells = slice_set s.cells n v })
+outcome P u s ts fs w (stores n v) = stored P s ts fs w n v (slice_get s.cells n)
 outcome P u s ts fs w (leaves v e) = asks (send v (thread (thread_of (Return w ∷ fs) (Eval v e)))) (after_done P s ts)
 outcome P u s ts fs w (says t) = asks (say t) (after_done P s (thread_of fs (Returned w unit_value) ∷ ts))
 outcome P u s ts fs w (sets e t) = asks (set e t) (after_done P s (thread_of fs (Returned w unit_value) ∷ ts))

@@ -18,7 +18,7 @@ use Rattle.m5_meaning.specs.Parts.{parts, fill}
 use Rattle.m5_meaning.specs.Site.{Program, Thread, Site, Item, raw}
 use Rattle.m5_meaning.specs.Reduction.{Reduced, gives, makes_text, goes_on, makes_cell, loads, stores, leaves, says, sets, writes, gets, reads, handles, watches, reduced}
 use Rattle.m5_meaning.specs.Reduction as reduction
-use Rattle.m5_meaning.specs.Step.{SiteNext, is_full, stops_full, atom, loaded, outcome, part_begun, evaluated, returned, focused, after_take, front, site_next}
+use Rattle.m5_meaning.specs.Step.{SiteNext, is_full, stops_full, atom, loaded, stored, outcome, part_begun, evaluated, returned, focused, after_take, front, site_next}
 use Rattle.m5_source_site.specs.Waits.{resumed}
 use Rattle.m5_source_site.specs.declared.resume.Wait.{Wait}
 use Rattle.m5_source_site.specs.declared.resume.Wait.TheVariants as wait
@@ -40,6 +40,10 @@ loaded-active : (P : Program) (s : Site) (ts : List Thread) (fs : List Frame) (w
 loaded-active P s ts fs w None = tt
 loaded-active P s ts fs w (Some v) = tt
 
+stored-active : (P : Program) (s : Site) (ts : List Thread) (fs : List Frame) (w : World) (n : ℕ) (v : Expression) (o : Option Expression) → IsActive (stored P s ts fs w n v o)
+stored-active P s ts fs w n v None = tt
+stored-active P s ts fs w n v (Some x) = tt
+
 outcome-active : (P : Program) (u : World) (s : Site) (ts : List Thread) (fs : List Frame) (w : World) (r : Reduced) → IsActive (outcome P u s ts fs w r)
 outcome-active P u s ts fs w (makes_cell v) = either (is_full s.cells) s _ tt
 outcome-active P u s ts fs w (loads n) = loaded-active P s ts fs w (slice_get s.cells n)
@@ -48,7 +52,7 @@ outcome-active P u s ts fs w (watches e h) = either (is_full s.handlers) s _ tt
 outcome-active P u s ts fs w (gives v) = tt
 outcome-active P u s ts fs w (makes_text t) = tt
 outcome-active P u s ts fs w (goes_on e) = tt
-outcome-active P u s ts fs w (stores n v) = tt
+outcome-active P u s ts fs w (stores n v) = stored-active P s ts fs w n v (slice_get s.cells n)
 outcome-active P u s ts fs w (leaves v e) = tt
 outcome-active P u s ts fs w (says t) = tt
 outcome-active P u s ts fs w (sets e t) = tt

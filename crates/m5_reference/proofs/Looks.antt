@@ -17,7 +17,7 @@ use Rattle.m5_meaning.specs.Parts.{parts, fill}
 use Rattle.m5_meaning.specs.Site.{Program, Thread, Site, Item}
 use Rattle.m5_meaning.specs.Reduction.{Reduced, gives, makes_text, goes_on, makes_cell, loads, stores, leaves, says, sets, writes, gets, reads, handles, watches, reduced}
 use Rattle.m5_meaning.specs.Reduction as reduction
-use Rattle.m5_meaning.specs.Step.{SiteNext, step_weight, is_full, stops_full, atom, loaded, outcome, part_begun, evaluated, returned, focused, after_take, front, site_next}
+use Rattle.m5_meaning.specs.Step.{SiteNext, step_weight, is_full, stops_full, atom, loaded, stored, outcome, part_begun, evaluated, returned, focused, after_take, front, site_next}
 use Rattle.m5_script.specs.Scenario.{Scenario}
 use Rattle.m5_network.specs.Run.{next_weight}
 use Rattle.m5_reference.specs.declared.moment.Limits.{Limits}
@@ -62,6 +62,10 @@ loaded-counted : (P : Program) (s : Site) (ts : List Thread) (fs : List Frame) (
 loaded-counted P s ts fs w None = tt
 loaded-counted P s ts fs w (Some v) = refl
 
+stored-counted : (P : Program) (s : Site) (ts : List Thread) (fs : List Frame) (w : World) (n : ℕ) (v : Expression) (o : Option Expression) → IsCounted s (stored P s ts fs w n v o)
+stored-counted P s ts fs w n v None = tt
+stored-counted P s ts fs w n v (Some x) = refl
+
 outcome-counted : (P : Program) (u : World) (s : Site) (ts : List Thread) (fs : List Frame) (w : World) (r : Reduced) → IsCounted s (outcome P u s ts fs w r)
 outcome-counted P u s ts fs w (makes_cell v) = either (is_full s.cells) s _ refl
 outcome-counted P u s ts fs w (loads n) = loaded-counted P s ts fs w (slice_get s.cells n)
@@ -70,7 +74,7 @@ outcome-counted P u s ts fs w (watches e h) = either (is_full s.handlers) s _ tt
 outcome-counted P u s ts fs w (gives v) = refl
 outcome-counted P u s ts fs w (makes_text t) = refl
 outcome-counted P u s ts fs w (goes_on e) = refl
-outcome-counted P u s ts fs w (stores n v) = refl
+outcome-counted P u s ts fs w (stores n v) = stored-counted P s ts fs w n v (slice_get s.cells n)
 outcome-counted P u s ts fs w (leaves v e) = tt
 outcome-counted P u s ts fs w (says t) = tt
 outcome-counted P u s ts fs w (sets e t) = tt

@@ -25,7 +25,7 @@ pub data Canonical (E : Setting) (u : World) : Expression → TypeExpression →
   a_text : (s : List ℕ) → IsText s → Canonical E u (leaf (leaf_form.Str s)) string
   an_address : (w : World) → Canonical E u (leaf (leaf_form.Addr w)) (address w)
   a_nil : (T A : TypeExpression) → Canonical E u (leaf (leaf_form.Nil T)) (list A)
-  a_cell : (w : World) (n : ℕ) (A : TypeExpression) → type_at (E.cells u) n ≡ Some A → Canonical E u (leaf (leaf_form.CellAt w n)) (cell A)
+  a_cell : (w : World) (n : ℕ) (A : TypeExpression) → u ≡ w → type_at (E.cells u) n ≡ Some A → Canonical E u (leaf (leaf_form.CellAt w n)) (cell A)
   an_extern : (p : Primitive) (A B : TypeExpression) → u ≡ primitive_world p → function A B ≡ primitive_type p → Canonical E u (leaf (leaf_form.Extern p)) (function A B)
   a_declared : (f : ℕ) (A B : TypeExpression) → IsKnownAt (E.functions f) u (function A B) → Canonical E u (leaf (leaf_form.Glob f)) (function A B)
   a_function : (x : ℕ) (C : TypeExpression) (b : Expression) (A B : TypeExpression) → C ≡ A → Typed E (with x (Some (local u A)) nothing) u b B → Canonical E u (unary (unary_form.Fn x C) b) (function A B)
@@ -46,7 +46,7 @@ canonical E u (leaf (leaf_form.Str s)) A (p, d) = subst (Canonical E u (leaf (le
 canonical E u (leaf (leaf_form.Addr w)) A (p, d) = subst (Canonical E u (leaf (leaf_form.Addr w))) (sym d.0.1) (an_address w)
 canonical E u (leaf (leaf_form.Nil T)) A (p, d) = subst (Canonical E u (leaf (leaf_form.Nil T))) (sym d.0) (a_nil T T)
 canonical E u (leaf (leaf_form.CellAt w n)) A (p, d) =
-    subst (Canonical E u (leaf (leaf_form.CellAt w n))) (sym d.0.4) (a_cell w n d.0.0 (subst (λ x. type_at (E.cells x) n ≡ Some d.0.0) (sym d.0.2) d.0.3))
+    subst (Canonical E u (leaf (leaf_form.CellAt w n))) (sym d.0.4) (a_cell w n d.0.0 d.0.2 (subst (λ x. type_at (E.cells x) n ≡ Some d.0.0) (sym d.0.2) d.0.3))
 canonical E u (leaf (leaf_form.Extern x)) A (p, d) = subst (Canonical E u (leaf (leaf_form.Extern x))) (sym d.0.1) (extern-form x d.0.0)
   where
     extern-form : (x : Primitive) → u ≡ primitive_world x → Canonical E u (leaf (leaf_form.Extern x)) (primitive_type x)

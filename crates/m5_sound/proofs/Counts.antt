@@ -12,7 +12,7 @@ use Rattle.m5_terms.specs.Machine.{goes}
 use Rattle.m5_meaning.specs.Site.{Program, Thread, Site}
 use Rattle.m5_meaning.specs.Parts.{parts, fill}
 use Rattle.m5_meaning.specs.Reduction.{Reduced, gives, makes_text, goes_on, makes_cell, loads, stores, handles, watches, reduced}
-use Rattle.m5_meaning.specs.Step.{SiteNext, is_full, stops_full, atom, loaded, outcome, part_begun, evaluated, returned, focused, front, site_next}
+use Rattle.m5_meaning.specs.Step.{SiteNext, is_full, stops_full, atom, loaded, stored, outcome, part_begun, evaluated, returned, focused, front, site_next}
 
 -- after a local step the site has made one step more
 abbrev pub CountsOne : Site → SiteNext → Type 0
@@ -27,13 +27,17 @@ loaded-counts : (P : Program) (s : Site) (ts : List Thread) (fs : List Frame) (w
 loaded-counts P s ts fs w None = tt
 loaded-counts P s ts fs w (Some v) = refl
 
+stored-counts : (P : Program) (s : Site) (ts : List Thread) (fs : List Frame) (w : World) (n : ℕ) (v : Expression) (o : Option Expression) → CountsOne s (stored P s ts fs w n v o)
+stored-counts P s ts fs w n v None = tt
+stored-counts P s ts fs w n v (Some x) = refl
+
 outcome-counts : (P : Program) (u : World) (s : Site) (ts : List Thread) (fs : List Frame) (w : World) (x : Reduced) → CountsOne s (outcome P u s ts fs w x)
 outcome-counts P u s ts fs w (gives v) = refl
 outcome-counts P u s ts fs w (makes_text t) = refl
 outcome-counts P u s ts fs w (goes_on e) = refl
 outcome-counts P u s ts fs w (makes_cell v) = both-count s (is_full s.cells) (stops_full s) _ tt refl
 outcome-counts P u s ts fs w (loads n) = loaded-counts P s ts fs w (slice_get s.cells n)
-outcome-counts P u s ts fs w (stores n v) = refl
+outcome-counts P u s ts fs w (stores n v) = stored-counts P s ts fs w n v (slice_get s.cells n)
 outcome-counts P u s ts fs w (handles e h) = both-count s (is_full s.handlers) (stops_full s) _ tt tt
 outcome-counts P u s ts fs w (watches e h) = both-count s (is_full s.handlers) (stops_full s) _ tt tt
 outcome-counts P u s ts fs w _ = tt

@@ -2,7 +2,7 @@
 use Rattle.std.proofs.Common.{◌≡◌, ◌≢◌, inl, inr, ℕ, ◌<◌, pos, Bool, true, false, if◌then◌else◌, IsTrue, ◌&&◌, Option, Some, None, slice_get, refl, sym, subst, arith}
 use Rattle.std.specs.Ordering.{int_eq}
 use Rattle.m5_terms.specs.Expression.{Expression, leaf, unary, binary, ternary}
-use Rattle.m5_terms.specs.TypeExpression.{TypeExpression, unit, bool, int, string, address, product, sum, function, list, cell, sham, at, mobile}
+use Rattle.m5_terms.specs.TypeExpression.{TypeExpression, unit, bool, int, string, address, product, sum, function, list, cell, sham, at, mobile, same_world}
 use Rattle.m5_terms.specs.Text.{IsText}
 use Rattle.m5_terms.specs.Primitives.{primitive_world, primitive_type}
 use Rattle.m5_terms.specs.Substitution.{substituted}
@@ -106,8 +106,12 @@ quotient-typed E u a b (an_int m) (an_int n) =
 divided-typed : (E : Setting) (u : World) (v : Expression) → Canonical E u v (product int int) → Outcome E u (sum unit int) (divided v)
 divided-typed E u v (a_pair a b A B c d) = quotient-typed E u a b (canonical E u a int c) (canonical E u b int d)
 
-load-typed : (E : Setting) (u : World) (v : Expression) (A : TypeExpression) → Canonical E u v (cell A) → Outcome E u A (at_cell loads v)
-load-typed E u v A (a_cell w n A' e) = e
+-- a typed cell is the site's own
+own-cell : (E : Setting) (u w : World) (A : TypeExpression) (x : Reduced) → u ≡ w → Outcome E u A x → Outcome E u A (if same_world w u then x else wrong)
+own-cell E u w A x h o = by-world (λ t. Outcome E u A (if t then x else wrong)) w u (λ q. o) (λ q. absurd (q (sym h)))
+
+load-typed : (E : Setting) (u : World) (v : Expression) (A : TypeExpression) → Canonical E u v (cell A) → Outcome E u A (at_cell u loads v)
+load-typed E u v A (a_cell w n A' h e) = own-cell E u w A (loads n) h e
 
 pub unary-typed : (E : Setting) (u : World) (f : UnaryForm) (a : Expression) (A : TypeExpression) → 0 < unary_parts f → IsValue a → Typed E nothing u (unary f a) A → Outcome E u A (reduced_unary u f a)
 unary-typed E u (unary_form.Fn x C) a A h p d = absurd (omega arith)
@@ -122,7 +126,7 @@ unary-typed E u unary_form.Snd a A h p d = outcome-at E u (second_of a) A _ d.is
 unary-typed E u unary_form.StrOf a A h p d = outcome-at E u (text_of_number a) A _ d.is (number-typed E u a (canonical E u a _ (p, d.part)))
 unary-typed E u unary_form.Div a A h p d = outcome-at E u (divided a) A _ d.is (divided-typed E u a (canonical E u a _ (p, d.part)))
 unary-typed E u unary_form.NewCell a A h p d = (d.pick.a, d.is, d.small, (p, d.part))
-unary-typed E u unary_form.Load a A h p d = outcome-at E u (at_cell loads a) A _ d.is (load-typed E u a d.pick.a (canonical E u a _ (p, d.part)))
+unary-typed E u unary_form.Load a A h p d = outcome-at E u (at_cell u loads a) A _ d.is (load-typed E u a d.pick.a (canonical E u a _ (p, d.part)))
 unary-typed E u unary_form.Hold a A h p d = (p, record { pick = d.pick; part = d.part; side = (d.side, p); is = d.is; small = d.small })
 
 -- of two parts
@@ -136,8 +140,8 @@ operated-typed E u op.Less a b (an_int m) (an_int n) = (refl, (refl, omega arith
 operated-typed E u op.Cat a b (a_text s i) (a_text t j) = (refl, text-append s t i j)
 operated-typed E u op.EqStr a b (a_text s i) (a_text t j) = (refl, (refl, omega arith))
 
-store-typed : (E : Setting) (u : World) (v b : Expression) (A : TypeExpression) → Canonical E u v (cell A) → ValueTyped E u b A → Outcome E u unit (at_cell (λ n. stores n b) v)
-store-typed E u v b A (a_cell w n A' e) c = (A, refl, e, c)
+store-typed : (E : Setting) (u : World) (v b : Expression) (A : TypeExpression) → Canonical E u v (cell A) → ValueTyped E u b A → Outcome E u unit (at_cell u (λ n. stores n b) v)
+store-typed E u v b A (a_cell w n A' h e) c = own-cell E u w unit (stores n b) h (A, refl, e, c)
 
 says-typed : (E : Setting) (u : World) (v : Expression) → u ≡ primitive_world primitive.Say → Canonical E u v string → Outcome E u unit (called_extern primitive.Say v)
 says-typed E u v h (a_text s i) = (refl, (h, i))
@@ -251,7 +255,7 @@ pub binary-typed : (E : Setting) (P : Program) (u : World) (f : BinaryForm) (a b
 binary-typed E P u binary_form.Call a b A t p q d = outcome-at E u (called P a b) A _ d.is (call-typed E P u a b d.pick.a d.pick.b t (canonical E u a _ (p, d.first)) (q, d.second))
 binary-typed E P u binary_form.Pair a b A t p q d = (both-are _ _ p q, d)
 binary-typed E P u binary_form.Cons a b A t p q d = (both-are _ _ p q, d)
-binary-typed E P u binary_form.Store a b A t p q d = outcome-at E u (at_cell (λ k. stores k b) a) A _ d.is (store-typed E u a b d.pick.a (canonical E u a _ (p, d.first)) (q, d.second))
+binary-typed E P u binary_form.Store a b A t p q d = outcome-at E u (at_cell u (λ k. stores k b) a) A _ d.is (store-typed E u a b d.pick.a (canonical E u a _ (p, d.first)) (q, d.second))
 binary-typed E P u (binary_form.Binary o) a b A t p q d = outcome-at E u (operated o a b) A _ d.is (operated-typed E u o a b (canonical E u a _ (p, d.first)) (canonical E u b _ (q, d.second)))
 binary-typed E P u binary_form.Do a b A t p q d = outcome-at E u (goes_on b) A _ d.is d.second
 binary-typed E P u binary_form.Get a b A t p q d = outcome-at E u (got u a b) A _ d.is (get-typed E u d.pick.v a b d.pick.b d.side.1 d.side.2 (canonical E u a _ (p, d.first)) d.second)

@@ -26,7 +26,7 @@ use Rattle.m5_typing.proofs.Weaken.{same}
 use Rattle.m5_typing.proofs.Mobile.{moves}
 use Rattle.m5_meaning.specs.Parts.{binary_parts, parts, part, fill, inner_world}
 use Rattle.m5_meaning.specs.Reduction.{Reduced, gives, makes_text, goes_on, makes_cell, loads, stores, leaves, says, sets, writes, gets, reads, handles, watches, wrong, unit_value, text_value, reduced}
-use Rattle.m5_meaning.specs.Step.{SiteNext, thread_of, stepped, is_full, stops_full, atom, loaded, after_done, adds_handler, outcome, part_begun, evaluated, returned, focused, front, site_next}
+use Rattle.m5_meaning.specs.Step.{SiteNext, thread_of, stepped, is_full, stops_full, atom, loaded, stored, after_done, adds_handler, outcome, part_begun, evaluated, returned, focused, front, site_next}
 use Rattle.m5_sound.specs.Settings.{with_cells, setting, GrowsAt}
 use Rattle.m5_sound.specs.Threads.{StandsAt, is_ready, FramesTyped, FocusTyped, ThreadTyped}
 use Rattle.m5_sound.specs.Sites.{CellsTyped, HandlerTyped, SiteTyped, QueryTyped, NextTyped}
@@ -101,6 +101,12 @@ loads-typed P E u s ts fs n A t e f =
     let v = cell-there E u s.cells (E.cells u) n A t.site.1 e in
     subst (λ o. NextTyped E u (loaded P s ts fs u o)) (sym v.1) (gives-typed P E u u s ts fs v.0 A 0 t v.2.0 (inl refl) v.2.1 f)
 
+stores-typed : (P : Program) (E : Setting) (u : World) (s : Site) (ts : List Thread) (fs : List Frame) (n : ℕ) (v : Expression) (A : TypeExpression) → Turn P E u s ts → Outcome E u A (stores n v) → FramesTyped E u fs u A → NextTyped E u (stored P s ts fs u n v (slice_get s.cells n))
+stores-typed P E u s ts fs n v A t o f =
+    let old = cell-there E u s.cells (E.cells u) n o.0 t.site.1 o.2 in
+    let d = unit-led P E u s ts fs A o.1 t f in
+    subst (λ x. NextTyped E u (stored P s ts fs u n v x)) (sym old.1) (at-once E u _ (d.0, cell-set E u s.cells (E.cells u) n o.0 v t.site.1 o.2 o.3, d.2))
+
 handler-added : (P : Program) (E : Setting) (u : World) (s : Site) (ts : List Thread) (fs : List Frame) (q : ℕ → Query Item) (h : Expression) (A : TypeExpression) → IsTold (q (length s.handlers)) → QueryTyped E u (q (length s.handlers)) → A ≡ unit → HandlerTyped E u h → Turn P E u s ts → FramesTyped E u fs u A → NextTyped E u (adds_handler P s ts fs u q h)
 handler-added P E u s ts fs q h A o a e c t f =
     let d = unit-led P E u s ts fs A e t f in
@@ -116,9 +122,7 @@ outcome-typed P E u s ts fs (makes_text x) A t o f =
 outcome-typed P E u s ts fs (goes_on e) A t o f = at-once E u _ (led E u s fs (Eval u e) ts (record { of = A; stands = inl refl; typed = o; frames = f }) (rest-of P E u s ts t))
 outcome-typed P E u s ts fs (makes_cell v) A t o f = cell-typed P E u s ts fs v A t o f
 outcome-typed P E u s ts fs (loads k) A t o f = loads-typed P E u s ts fs k A t o f
-outcome-typed P E u s ts fs (stores k v) A t o f =
-    let d = unit-led P E u s ts fs A o.1 t f in
-    at-once E u _ (d.0, cell-set E u s.cells (E.cells u) k o.0 v t.site.1 o.2 o.3, d.2)
+outcome-typed P E u s ts fs (stores k v) A t o f = stores-typed P E u s ts fs k v A t o f
 outcome-typed P E u s ts fs (leaves v e) A t o f =
     asks-typed E u _ _
     (o.0, o.1, record { of = A; stands = inl refl; typed = o.3; frames = record { here = refl; away = λ q. o.0 (sym q); real = t.real; mobile = o.2; rest = f } })

@@ -19,7 +19,7 @@ use Rattle.m5_terms.specs.declared.form.TernaryForm.TheVariants as ternary_form
 use Rattle.m5_terms.specs.Substitution.{substituted}
 use Rattle.m5_typing.specs.declared.functions.Function.{Function}
 use Rattle.m5_meaning.specs.Site.{Program}
-use Rattle.m5_meaning.specs.Reduction.{Reduced, gives, goes_on, makes_cell, loads, stores, leaves, handles, watches, called, called_extern, called_function, first_of, second_of, text_of_number, divided, operated, at_cell, got, unheld, unsham, reduced_unary, reduced_binary, chosen, case_of_sum, case_of_list, reduced_ternary, reduced}
+use Rattle.m5_meaning.specs.Reduction.{Reduced, gives, goes_on, makes_cell, loads, stores, leaves, handles, watches, wrong, called, called_extern, called_function, first_of, second_of, text_of_number, divided, operated, at_cell, got, unheld, unsham, reduced_unary, reduced_binary, chosen, case_of_sum, case_of_list, reduced_ternary, reduced}
 use Rattle.m5_source_site.specs.ClosedSite.{IsClosedProgram}
 use Rattle.m5_source_site.proofs.ClosedTerm.{left, right, bound}
 
@@ -53,13 +53,13 @@ divided-closed : (v : Expression) → IsClosedReduced (divided v)
 divided-closed (binary binary_form.Pair (leaf (leaf_form.Int m)) (leaf (leaf_form.Int n))) = quotient-closed (int_eq n (pos 0)) _ _ refl refl
 divided-closed _ = tt
 
-loads-closed : (v : Expression) → IsClosedReduced (at_cell loads v)
-loads-closed (leaf (leaf_form.CellAt w n)) = tt
-loads-closed _ = tt
+here-closed : (t : Bool) (r : Reduced) → IsClosedReduced r → IsClosedReduced (if t then r else wrong)
+here-closed true r h = h
+here-closed false r h = tt
 
-stores-closed : (v b : Expression) → IsClosed b → IsClosedReduced (at_cell (λ n. stores n b) v)
-stores-closed (leaf (leaf_form.CellAt w n)) b h = h
-stores-closed _ b h = tt
+at-cell-closed : (w : World) (f : ℕ → Reduced) (v : Expression) → ((n : ℕ) → IsClosedReduced (f n)) → IsClosedReduced (at_cell w f v)
+at-cell-closed w f (leaf (leaf_form.CellAt x n)) h = here-closed (same_world x w) (f n) (h n)
+at-cell-closed w f _ h = tt
 
 unary-closed : (w : World) (f : UnaryForm) (v : Expression) → IsClosed (unary f v) → IsClosedReduced (reduced_unary w f v)
 unary-closed w unary_form.Fst v h = first-closed v h
@@ -67,7 +67,7 @@ unary-closed w unary_form.Snd v h = second-closed v h
 unary-closed w unary_form.StrOf v h = number-closed v
 unary-closed w unary_form.Div v h = divided-closed v
 unary-closed w unary_form.NewCell v h = h
-unary-closed w unary_form.Load v h = loads-closed v
+unary-closed w unary_form.Load v h = at-cell-closed w loads v (λ n. tt)
 unary-closed w unary_form.Hold v h = h
 unary-closed w f v h = h
 
@@ -122,7 +122,7 @@ binary-closed : (P : Program) → IsClosedProgram P → (w : World) (f : BinaryF
 binary-closed P c w binary_form.Call v b h = called-closed P c v b (left (closed_under [] v) _ h) (right (closed_under [] v) _ h)
 binary-closed P c w binary_form.Pair v b h = h
 binary-closed P c w binary_form.Cons v b h = h
-binary-closed P c w binary_form.Store v b h = stores-closed v b (right (closed_under [] v) _ h)
+binary-closed P c w binary_form.Store v b h = at-cell-closed w (λ n. stores n b) v (λ n. right (closed_under [] v) _ h)
 binary-closed P c w (binary_form.Binary o) v b h = operated-closed o v b
 binary-closed P c w binary_form.Do v b h = right (closed_under [] v) _ h
 binary-closed P c w binary_form.Get v b h = got-closed w v b (right (closed_under [] v) _ h)

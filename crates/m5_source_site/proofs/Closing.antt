@@ -20,7 +20,7 @@ use Rattle.m5_meaning.specs.Parts.{parts, part, fill, inner_world, unary_parts, 
 use Rattle.m5_meaning.specs.Site.{Program, Thread, Site, Item, thread, raw}
 use Rattle.m5_meaning.specs.Reduction.{Reduced, gives, makes_text, goes_on, makes_cell, loads, stores, leaves, says, sets, writes, gets, reads, handles, watches, reduced, unit_value}
 use Rattle.m5_meaning.specs.Reduction as reduction
-use Rattle.m5_meaning.specs.Step.{SiteNext, thread_of, stepped, is_full, stopped_by, stops_full, atom, loaded, after_done, after_get_text, after_read, adds_handler, outcome, part_begun, evaluated, returned, focused, handler_thread, handler_threads, begun, after_take, front}
+use Rattle.m5_meaning.specs.Step.{SiteNext, thread_of, stepped, is_full, stopped_by, stops_full, atom, loaded, stored, after_done, after_get_text, after_read, adds_handler, outcome, part_begun, evaluated, returned, focused, handler_thread, handler_threads, begun, after_take, front}
 use Rattle.m5_source_site.specs.ClosedSite.{IsClosedFrame, IsClosedFocus, IsClosedThread, IsClosedSite, IsClosedProgram, IsClosedQuery, IsClosedReply, IsClosedNext, StaysClosed}
 use Rattle.std.specs.Prelude.{Result, Ok, Err, IfOk}
 use Rattle.std.specs.declared.alloc.AllocError.{AllocError}
@@ -92,13 +92,17 @@ loaded-closed P s ts fs w (Some v) k h m c = going P 0 s ts fs (Returned w v) h 
 cell-closed : (P : Program) (n : ℕ) (s : Site) (ts : List Thread) (fs : List Frame) (f : Focus) (xs : List Expression) → All IsClosedThread ts → All IsClosedFrame fs → IsClosedFocus f → All IsClosed xs → IsClosedSite s → IsClosedSite (record (stepped P n s (thread_of fs f ∷ ts)) { cells = xs })
 cell-closed P n s ts fs f xs h m k a c = record { threads = (going P n s ts fs f h m k c).threads; cells = a; handlers = c.handlers }
 
+stored-closed : (P : Program) (s : Site) (ts : List Thread) (fs : List Frame) (w : World) (n : ℕ) (v : Expression) (o : Option Expression) → IsClosed v → All IsClosedThread ts → All IsClosedFrame fs → IsClosedSite s → IsClosedNext (stored P s ts fs w n v o)
+stored-closed P s ts fs w n v None k h m c = tt
+stored-closed P s ts fs w n v (Some x) k h m c = cell-closed P 0 s ts fs _ _ h m refl (All-set IsClosed s.cells n v k c.cells) c
+
 outcome-closed : (P : Program) (u : World) (s : Site) (ts : List Thread) (fs : List Frame) (w : World) (r : Reduced) → IsClosedSite s → All IsClosedThread ts → All IsClosedFrame fs → IsClosedReduced r → IsClosedNext (outcome P u s ts fs w r)
 outcome-closed P u s ts fs w (gives v) c h m k = going P 0 s ts fs (Returned w v) h m k c
 outcome-closed P u s ts fs w (makes_text t) c h m k = going P (length t) s ts fs _ h m refl c
 outcome-closed P u s ts fs w (goes_on e) c h m k = going P 0 s ts fs (Eval w e) h m k c
 outcome-closed P u s ts fs w (makes_cell v) c h m k = joins-or-stops (is_full s.cells) s _ c (cell-closed P 0 s ts fs _ _ h m refl (All-push IsClosed s.cells v c.cells k) c)
 outcome-closed P u s ts fs w (loads n) c h m k = loaded-closed P s ts fs w (slice_get s.cells n) (λ v e. at-place IsClosed s.cells n v e c.cells) h m c
-outcome-closed P u s ts fs w (stores n v) c h m k = cell-closed P 0 s ts fs _ _ h m refl (All-set IsClosed s.cells n v k c.cells) c
+outcome-closed P u s ts fs w (stores n v) c h m k = stored-closed P s ts fs w n v (slice_get s.cells n) k h m c
 outcome-closed P u s ts fs w (leaves v e) c h m k = (record { frames = All-cons IsClosedFrame (Return w) fs tt m; focus = k }, told P s ts h c)
 outcome-closed P u s ts fs w (says t) c h m k = (tt, told P s _ (unit-back ts fs w h m) c)
 outcome-closed P u s ts fs w (sets e t) c h m k = (tt, told P s _ (unit-back ts fs w h m) c)

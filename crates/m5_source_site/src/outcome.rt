@@ -1,13 +1,13 @@
 //! What a site does next once a node is reduced.
 
-ghost use Rattle.std.specs.Prelude.{◌≡◌, ◌<◌, ◌^◌, false, [], ◌∷◌, ◌++◌, length, IfOk, slice_get, slice_set};
+ghost use Rattle.std.specs.Prelude.{◌≡◌, ◌<◌, ◌^◌, false, [], ◌∷◌, ◌++◌, length, IfOk, slice_get};
 ghost use Rattle.m5_terms.specs.Expression.{leaf};
 ghost use Rattle.m5_terms.specs.declared.form.LeafForm.TheVariants as leaf_form;
 ghost use Rattle.m5_terms.specs.declared.thread.Focus.TheVariants.{Eval, Returned};
 ghost use Rattle.m5_terms.specs.declared.thread.Frame.TheVariants.{Return};
 ghost use Rattle.m5_terms.specs.declared.types.World.{World};
 ghost use Rattle.m5_meaning.specs.Site.{Program};
-ghost use Rattle.m5_meaning.specs.Step.{stepped, thread_of, outcome, is_full};
+ghost use Rattle.m5_meaning.specs.Step.{stepped, thread_of, stored, outcome, is_full};
 ghost use Rattle.m5_meaning.specs.Reduction.{unit_value};
 ghost use Rattle.m5_source_site.specs.ClosedSite.{HasRoom};
 ghost use Rattle.m5_source_site.specs.Reductions.{reduction_of};
@@ -108,20 +108,24 @@ fn copy_cell(alloc: Global, site: &Site, number: u32) -> Result<Option<Node>, Al
     }
 }
 
+/// Puts the content into the cell of that number, or is wrong where the site has none.
 fn store(
     rules: &Rules<'_>,
     mut site: Site,
     frames: FrameQueue,
     at: World,
     cell: (u32, Node),
-) -> Result<Site, AllocError>
+) -> Result<Progress, AllocError>
     requires { HasRoom site }
-    ensures { IfOk result (λ t. t ≡ record (stepped rules.now 0 site (thread_of frames (Returned at unit_value) ∷ site.threads)) { cells = slice_set site.cells cell.0 cell.1 }) }
+    ensures { (u : World) → IfOk result (λ a. Stands rules.now u a (stored rules.now site site.threads frames at cell.0 cell.1 (slice_get site.cells cell.0))) }
 {
     let (number, content) = cell;
+    if site.cell(number).is_none() {
+        return Ok(Progress::Wrong);
+    }
     site.set_cell(number, content);
-    let unit = Node::leaf(LeafForm::Unit);
-    step_to(rules, site, 0, frames, Focus::Returned(at, unit))
+    let unit = Focus::Returned(at, Node::leaf(LeafForm::Unit));
+    Ok(Progress::Goes(step_to(rules, site, 0, frames, unit)?))
 }
 
 /// The thread that leaves, whose value is to come back to where it was.
@@ -228,9 +232,7 @@ pub(crate) fn conclude(
             }
             None => Ok(Progress::Wrong),
         },
-        Reduced::Stores(number, value) => {
-            Ok(Progress::Goes(store(rules, site, frames, at, (number, value))?))
-        }
+        Reduced::Stores(number, value) => store(rules, site, frames, at, (number, value)),
         Reduced::Wrong => Ok(Progress::Wrong),
         asked => ask(site, frames, at, asked),
     }

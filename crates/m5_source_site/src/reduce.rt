@@ -1,11 +1,12 @@
 //! What a node becomes whose evaluated parts are values.
 
-ghost use Rattle.std.specs.Prelude.{◌≡◌, IfOk, slice_get};
+ghost use Rattle.std.specs.Prelude.{◌≡◌, ℕ, IfOk, MatchOption, slice_get};
 ghost use Rattle.m5_terms.specs.Expression.{unary, binary};
 ghost use Rattle.m5_terms.specs.Opened.{viewed_unary};
 ghost use Rattle.m5_terms.specs.Closed.{IsClosed};
 ghost use Rattle.m5_terms.specs.Substitution.{substituted};
 ghost use Rattle.m5_terms.specs.declared.form.BinaryForm.TheVariants as binary_form;
+ghost use Rattle.m5_meaning.specs.Reduction as reduction;
 ghost use Rattle.m5_meaning.specs.Reduction.{gives, goes_on, called, called_function, first_of, second_of, at_cell, loads, stores, got, unheld, unsham, reduced_unary, reduced_binary, chosen, case_of_sum, case_of_list, reduced_ternary};
 ghost use Rattle.m5_source_site.specs.Reductions.{reduction_of, wrapped_by};
 
@@ -102,23 +103,37 @@ fn second_of_pair(alloc: Global, value: &Node) -> Result<Reduced, AllocError>
     }
 }
 
-fn load(value: &Node) -> Reduced
-    ensures { reduction_of result ≡ at_cell loads value.now }
+/// The number of a cell of this world.
+fn cell_here(world: World, cell: &Node) -> Option<u32>
+    ensures { (f : ℕ → reduction.Reduced) → MatchOption result (at_cell world f cell.now ≡ reduction.wrong) (λ n. at_cell world f cell.now ≡ f n) }
 {
-    match value.open() {
-        Opened::Leaf(LeafView::CellAt(_, number)) => Reduced::Loads(number),
-        _ => Reduced::Wrong,
+    match cell.open() {
+        Opened::Leaf(LeafView::CellAt(owner, number)) => {
+            if is_same_world(owner, world) {
+                Some(number)
+            } else {
+                None
+            }
+        }
+        _ => None,
     }
 }
 
-fn store(alloc: Global, cell: &Node, value: &Node) -> Result<Reduced, AllocError>
-    ensures { IfOk result (λ r. reduction_of r ≡ at_cell (λ n. stores n value.now) cell.now) }
+fn load(world: World, cell: &Node) -> Reduced
+    ensures { reduction_of result ≡ at_cell world loads cell.now }
 {
-    match cell.open() {
-        Opened::Leaf(LeafView::CellAt(_, number)) => {
-            Ok(Reduced::Stores(number, value.copy(alloc)?))
-        }
-        _ => Ok(Reduced::Wrong),
+    match cell_here(world, cell) {
+        Some(number) => Reduced::Loads(number),
+        None => Reduced::Wrong,
+    }
+}
+
+fn store(alloc: Global, world: World, cell: &Node, value: &Node) -> Result<Reduced, AllocError>
+    ensures { IfOk result (λ r. reduction_of r ≡ at_cell world (λ n. stores n value.now) cell.now) }
+{
+    match cell_here(world, cell) {
+        Some(number) => Ok(Reduced::Stores(number, value.copy(alloc)?)),
+        None => Ok(Reduced::Wrong),
     }
 }
 
@@ -153,7 +168,7 @@ pub(crate) fn reduce_unary(
         UnaryView::StrOf => write_number(alloc, value),
         UnaryView::Div => divide(alloc, value),
         UnaryView::NewCell => Ok(Reduced::MakesCell(value.copy(alloc)?)),
-        UnaryView::Load => Ok(load(value)),
+        UnaryView::Load => Ok(load(world, value)),
         other => wrap(alloc, world, other, value),
     }
 }
@@ -225,7 +240,7 @@ pub(crate) fn reduce_binary(
     match form {
         BinaryForm::Call => call(alloc, rules, first, second),
         BinaryForm::Pair | BinaryForm::Cons => rebuilt(alloc, form, first, second),
-        BinaryForm::Store => store(alloc, first, second),
+        BinaryForm::Store => store(alloc, world, first, second),
         BinaryForm::Binary(op) => operate(alloc, op, first, second),
         BinaryForm::Do => Ok(Reduced::GoesOn(second.copy(alloc)?)),
         BinaryForm::Get => go_to(alloc, world, first, second),
