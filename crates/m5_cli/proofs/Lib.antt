@@ -1,2 +1,5 @@
+mod Completing
+mod Ends
 mod Finishing
+mod ReferenceDue
 mod Silent

@@ -1,5 +1,5 @@
 -- A script that has what an empty script has is the empty one's.
-use Rattle.std.proofs.Common.{◌≡◌, ℕ, List, [], ◌∷◌, length, refl, sym, arith}
+use Rattle.std.proofs.Common.{◌≡◌, List, [], ◌∷◌, length, refl, arith}
 use Rattle.m5_script.specs.Scenario.{Scenario, silent}
 
 nothing : {A : Type 0} (xs : List A) → length xs ≡ 0 → xs ≡ []

@@ -1,6 +1,10 @@
+pub mod Cases
 pub mod Due
 pub mod First
 pub mod Input
+pub mod Leaves
+pub mod Reference
 pub mod Refusal
 pub mod Status
+pub mod Taken
 pub mod Words

@@ -13,4 +13,5 @@ number_of status.BadTypes = 5
 number_of status.BadScript = 6
 number_of status.NoMemory = 7
 number_of status.TooLong = 8
+number_of status.Stopped = 10
 number_of status.Unbuilt = 11

@@ -1,33 +1,28 @@
 //! What is due for an input that was read whole: a status and the text that is written with it.
 
-ghost use Rattle.std.specs.Prelude.{◌≡◌, ◌≤◌, length, Err, IfOk};
+ghost use Rattle.std.specs.Prelude.{◌≡◌, ◌≤◌, length, IfErr, IfOk};
 ghost use Rattle.m5_raw.specs.RawTerm.{RawTerm};
 ghost use Rattle.m5_tree.specs.declared.tree.Tree.{Tree as TreeOf};
 ghost use Rattle.m5_typing.specs.Program.{ProgramTerm};
 ghost use Rattle.m5_front.specs.Refusal.{HasFault};
-ghost use Rattle.m5_script.specs.Script.{script_of};
-ghost use Rattle.m5_cli.specs.Due.{Due, Accepts, SaysScript, input_limit};
+ghost use Rattle.m5_cli.specs.Cases.{IsBadScript};
+ghost use Rattle.m5_cli.specs.Due.{Due};
 ghost use Rattle.m5_cli.specs.Input.{parts_of};
+ghost use Rattle.m5_cli.specs.Taken.{Accepts, SaysScript, input_limit};
 
+use crate::answer::Answer;
 use crate::first::first_trace;
 use crate::input::split;
+use crate::reference::reference_trace;
 use crate::refusal::{fault_status, refusal_text, script_text};
 use crate::status::Status;
 use crate::words::Job;
 use m5_front::program::{Accepted, read_program};
 use m5_front::refusal::{FrontEnd, Refusal};
 use m5_script::read::{ScriptEnd, read_script};
-use m5_script::reading::LineKind;
 use m5_script::script::Script;
 use m5_terms::text::Text;
 use std::alloc::{AllocError, Global};
-
-/// A status, and the text that is written with it.
-#[derive(Drop)]
-pub struct Answer {
-    pub status: Status,
-    pub text: Text,
-}
 
 /// What is due for a refused program text.
 fn refused(alloc: Global, job: Job, input: &[u8], refusal: Refusal) -> Result<Answer, AllocError>
@@ -52,6 +47,30 @@ fn checked(alloc: Global, input: &[u8], accepted: &Accepted) -> Result<Answer, A
         status: Status::Rest,
         text: Text::of(alloc, b"accepted\n")?,
     })
+}
+
+/// The script that a text says, or what is due for its first bad line.
+fn script_in(
+    alloc: Global,
+    input: &[u8],
+    accepted: &Accepted,
+    text: &[u8],
+) -> Result<Result<Script, Answer>, AllocError>
+    requires short { length input.now ≤ input_limit }
+    requires accepted { Accepts input.now accepted.now.tree accepted.now.raw accepted.now.program }
+    requires text { text.now ≡ (parts_of input.now).script }
+    requires within { length text.now ≤ length input.now }
+    ensures says { IfOk result (λ read. IfOk read (SaysScript input.now)) }
+    ensures bad { IfOk result (λ read. IfErr read (λ answer. (answer.status ≡ Status.BadScript) × IsBadScript input.now answer.text)) }
+{
+    match read_script(alloc, text) {
+        Ok(script) => Ok(Ok(script)),
+        Err(ScriptEnd::Memory) => Err(AllocError),
+        Err(ScriptEnd::Line(number, kind)) => Ok(Err(Answer {
+            status: Status::BadScript,
+            text: script_text(alloc, number, kind)?,
+        })),
+    }
 }
 
 /// What `run` owes for an accepted program and a script.
@@ -80,25 +99,6 @@ fn run_script(
     }
 }
 
-/// What is due for a script with a bad line.
-fn bad_script(
-    alloc: Global,
-    input: &[u8],
-    accepted: &Accepted,
-    number: u32,
-    kind: LineKind,
-) -> Result<Answer, AllocError>
-    requires short { length input.now ≤ input_limit }
-    requires accepted { Accepts input.now accepted.now.tree accepted.now.raw accepted.now.program }
-    requires bad { script_of (parts_of input.now).script ≡ Err (record { line = number; kind = kind }) }
-    ensures { IfOk result (λ answer. Due Job.Run input.now answer.status answer.text) }
-{
-    Ok(Answer {
-        status: Status::BadScript,
-        text: script_text(alloc, number, kind)?,
-    })
-}
-
 /// What `run` owes for an accepted program and a script text.
 fn run(alloc: Global, input: &[u8], accepted: &Accepted, text: &[u8]) -> Result<Answer, AllocError>
     requires short { length input.now ≤ input_limit }
@@ -107,10 +107,28 @@ fn run(alloc: Global, input: &[u8], accepted: &Accepted, text: &[u8]) -> Result<
     requires within { length text.now ≤ length input.now }
     ensures { IfOk result (λ answer. Due Job.Run input.now answer.status answer.text) }
 {
-    match read_script(alloc, text) {
+    match script_in(alloc, input, accepted, text)? {
         Ok(script) => run_script(alloc, input, accepted, text, &script),
-        Err(ScriptEnd::Memory) => Err(AllocError),
-        Err(ScriptEnd::Line(number, kind)) => bad_script(alloc, input, accepted, number, kind),
+        Err(answer) => Ok(answer),
+    }
+}
+
+/// What `ref` owes for an accepted program and a script text.
+fn reference(
+    alloc: Global,
+    input: &[u8],
+    accepted: &Accepted,
+    text: &[u8],
+) -> Result<Answer, AllocError>
+    requires short { length input.now ≤ input_limit }
+    requires accepted { Accepts input.now accepted.now.tree accepted.now.raw accepted.now.program }
+    requires text { text.now ≡ (parts_of input.now).script }
+    requires within { length text.now ≤ length input.now }
+    ensures { IfOk result (λ answer. Due Job.Ref input.now answer.status answer.text) }
+{
+    match script_in(alloc, input, accepted, text)? {
+        Ok(script) => reference_trace(alloc, &accepted.program, &script),
+        Err(answer) => Ok(answer),
     }
 }
 
@@ -128,5 +146,6 @@ pub(crate) fn due(alloc: Global, job: Job, input: &[u8]) -> Result<Answer, Alloc
     match job {
         Job::Check => checked(alloc, input, &accepted),
         Job::Run => run(alloc, input, &accepted, script),
+        Job::Ref => reference(alloc, input, &accepted, script),
     }
 }

@@ -3,7 +3,9 @@
 ghost use Rattle.std.specs.Prelude.{◌≡◌, ◌≢◌, ◌≤◌, ◌⊎◌, ℕ, List, length, IfSome};
 ghost use Rattle.std.specs.Io.KnownBytes.{Keeps};
 ghost use Rattle.m5_base.specs.Causes.{Rose};
-ghost use Rattle.m5_cli.specs.Due.{Due, Finishes, Leaves, input_limit};
+ghost use Rattle.m5_cli.specs.Due.{Due};
+ghost use Rattle.m5_cli.specs.Leaves.{Completes, Finishes, Leaves, Takes};
+ghost use Rattle.m5_cli.specs.Taken.{input_limit};
 ghost use Rattle.m5_cli.specs.declared.words.Job.{Job as JobOf};
 
 use crate::due::due;
@@ -21,6 +23,7 @@ const INPUT_LIMIT: u64 = 262_144;
 pub fn finish<K: Sink>(sink: &mut K, status: Status, due: &[u8]) -> Status
     ensures finishes { Finishes (K.held sink.old) (K.held sink.new) status due.now result }
     ensures leaves { (job : JobOf) (input : List ℕ) → Due job input status due.now → Leaves job (K.held sink.old) (K.held sink.new) input result }
+    ensures complete { (job : JobOf) (input : List ℕ) → Due job input status due.now → Takes job input → Completes job result }
     ensures fault { result ≡ Status.WriteFault → (status ≡ Status.WriteFault) ⊎ Rose (K.faults sink.old) (K.faults sink.new) }
     ensures later { K.faults sink.old ≤ K.faults sink.new }
 {
@@ -34,6 +37,7 @@ pub fn finish<K: Sink>(sink: &mut K, status: Status, due: &[u8]) -> Status
 fn answer<K: Sink>(alloc: Global, job: Job, input: &[u8], sink: &mut K) -> Status
     requires { length input.now ≤ input_limit }
     ensures leaves { Leaves job (K.held sink.old) (K.held sink.new) input.now result }
+    ensures complete { Takes job input.now → Completes job result }
     ensures no_read_fault { result ≢ Status.ReadFault }
     ensures no_usage { result ≢ Status.Usage }
     ensures write_fault { result ≡ Status.WriteFault → Rose (K.faults sink.old) (K.faults sink.new) }
@@ -46,13 +50,18 @@ fn answer<K: Sink>(alloc: Global, job: Job, input: &[u8], sink: &mut K) -> Statu
 
 /// Does a job over a source and a sink, and answers how it ended.
 ///
-/// `check` reads a program, and writes that it is accepted. `run` reads a program and a script, and writes the trace of the
-/// program's run. Where the input has more than 262,144 bytes the answer is `TooLong`, where the program text is refused
-/// `BadText` or `BadTypes`, and of `run`, where the script is refused `BadScript`, and where program or script is not of the
-/// first form `Unbuilt`, each with its line; `ReadFault` and `WriteFault` come with a failure of the
-/// source and the sink, and `NoMemory` where memory ran out.
+/// `check` reads a program, and writes that it is accepted. `run` and `ref` read a program and a script, and write the trace
+/// of the program's run: `run` of a program and a script of the first form, `ref` of any, by the meaning itself, each site
+/// within the lesser of the script's steps and 5,000. Where a trace has a stop line the answer is `Stopped`, else `Rest`.
+///
+/// Where the input has more than 262,144 bytes the answer is `TooLong`, where the program text is refused `BadText` or
+/// `BadTypes`, where `run` or `ref` refuses the script `BadScript`, and where `run` is given another form `Unbuilt`, each
+/// with its line; `ReadFault` and `WriteFault` come with a failure of the source and the sink, and `NoMemory` where memory
+/// ran out. So an accepted program, with a script where the job reads one, is answered with the job's output, or by a
+/// fault, `NoMemory` or, of `run`, `Unbuilt`.
 pub fn plain<S: Source, K: Sink>(alloc: Global, job: Job, source: &mut S, sink: &mut K) -> Status
     ensures leaves { IfSome (S.left source.old) (λ input. Leaves job (K.held sink.old) (K.held sink.new) input result) }
+    ensures complete { IfSome (S.left source.old) (λ input. Takes job input → Completes job result) }
     ensures read_fault { result ≡ Status.ReadFault → Rose (S.faults source.old) (S.faults source.new) }
     ensures nothing { result ≡ Status.ReadFault → Keeps (K.held sink.old) (K.held sink.new) }
     ensures write_fault { result ≡ Status.WriteFault → Rose (K.faults sink.old) (K.faults sink.new) }

@@ -1,10 +1,12 @@
 //! The jobs of the program: from the words and the bytes read to the bytes written and the status.
 #![tactic(auto)]
 
+mod answer;
 mod due;
 mod first;
 mod input;
 mod jobs;
+mod reference;
 mod refusal;
 mod status;
 mod top;

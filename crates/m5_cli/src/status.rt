@@ -24,6 +24,8 @@ pub enum Status {
     NoMemory,
     /// The input has more than 262,144 bytes.
     TooLong,
+    /// The trace is written, and it has a stop line.
+    Stopped,
     /// The program or the script is not of the form that `run` takes today.
     Unbuilt,
 }
@@ -43,6 +45,7 @@ impl Status {
             Status::BadScript => 6,
             Status::NoMemory => 7,
             Status::TooLong => 8,
+            Status::Stopped => 10,
             Status::Unbuilt => 11,
         }
     }

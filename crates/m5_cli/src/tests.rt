@@ -1,6 +1,7 @@
 //! Whole calls over memory: what is written for an input, and what failures leave.
 
 mod checks;
+mod runs;
 mod scripts;
 
 use crate::{Job, Status, Words, ml5, plain};
@@ -156,6 +157,6 @@ fn wants_a_listed_word(rt: HostRuntime) -> Result<(), Fail> {
     let words = Words::make(alloc);
     let status = ml5(&rt, alloc, &words, &mut source, &mut sink, &OpenGate);
     assert_eq!(rt; status, Status::Usage);
-    assert_eq!(rt; sink.held(), b"usage: ml5 check, run\n".as_slice());
+    assert_eq!(rt; sink.held(), b"usage: ml5 check, run, ref\n".as_slice());
     Ok(())
 }

@@ -3,7 +3,8 @@
 ghost use Rattle.std.specs.Prelude.{◌≡◌, ◌≤◌, IfSome, None, Some};
 ghost use Rattle.std.specs.Io.KnownBytes.{Keeps};
 ghost use Rattle.m5_base.specs.Causes.{Rose};
-ghost use Rattle.m5_cli.specs.Due.{Finishes, Leaves, usage_line};
+ghost use Rattle.m5_cli.specs.Due.{usage_line};
+ghost use Rattle.m5_cli.specs.Leaves.{Completes, Finishes, Leaves, Takes};
 ghost use Rattle.m5_cli.specs.Words.{job_of};
 ghost use Rattle.m5_cli.specs.declared.words.Job.{Job};
 
@@ -32,12 +33,14 @@ pub fn ml5<R: Threads + Wait + Sync, S: Source, K: Sink, G: Gate + Sync>(
     ensures usage_only { result ≡ Status.Usage → job_of words.now ≡ None }
     ensures leaves { (job : Job) → job_of words.now ≡ Some job
         → IfSome (S.left source.old) (λ input. Leaves job (K.held sink.old) (K.held sink.new) input result) }
+    ensures complete { (job : Job) → job_of words.now ≡ Some job
+        → IfSome (S.left source.old) (λ input. Takes job input → Completes job result) }
     ensures read_fault { result ≡ Status.ReadFault → Rose (S.faults source.old) (S.faults source.new) }
     ensures nothing { result ≡ Status.ReadFault → Keeps (K.held sink.old) (K.held sink.new) }
     ensures write_fault { result ≡ Status.WriteFault → Rose (K.faults sink.old) (K.faults sink.new) }
 {
     match read_words(words) {
         Some(job) => plain(alloc, job, source, sink),
-        None => finish(sink, Status::Usage, b"usage: ml5 check, run\n"),
+        None => finish(sink, Status::Usage, b"usage: ml5 check, run, ref\n"),
     }
 }

@@ -13,6 +13,8 @@ pub enum Job {
     Check,
     /// Run a program by a script, and write the trace.
     Run,
+    /// Run any program by a script as its meaning says, by substitution, and write the trace.
+    Ref,
 }
 
 /// The words after the program's name, which contracts see as a list of texts.
@@ -59,6 +61,7 @@ pub fn read_words(words: &Words) -> Option<Job>
     match words.held.as_slice() {
         [word] if word.as_str() == "check" => Some(Job::Check),
         [word] if word.as_str() == "run" => Some(Job::Run),
+        [word] if word.as_str() == "ref" => Some(Job::Ref),
         _ => None,
     }
 }

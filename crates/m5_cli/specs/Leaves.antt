@@ -1,0 +1,46 @@
+-- What a call leaves in the sink, and how it answers an input that its job takes.
+use Rattle.std.specs.Prelude.{◌≡◌, ◌<◌, ◌⊎◌, ℕ, List, length, take}
+use Rattle.std.specs.Io.KnownBytes.{Appends, Keeps}
+use Rattle.std.specs.declared.option.Option.{Option}
+use Rattle.m5_cli.specs.Due.{Due}
+use Rattle.m5_cli.specs.Taken.{HasProgram, HasScript}
+use Rattle.m5_cli.specs.declared.words.Job.{Job}
+use Rattle.m5_cli.specs.declared.words.Job.TheVariants as job
+use Rattle.m5_cli.specs.declared.status.Status.{Status}
+use Rattle.m5_cli.specs.declared.status.Status.TheVariants as status
+
+-- a proper prefix of the text was taken
+abbrev pub TookSome : Option (List ℕ) → Option (List ℕ) → List ℕ → Type 0
+TookSome old new text = (count : ℕ) × (count < length text) × Appends old new (take count text)
+
+-- the sink took the whole text, or failed after a proper prefix of it
+abbrev pub Finishes : Option (List ℕ) → Option (List ℕ) → Status → List ℕ → Status → Type 0
+Finishes old new meant text result = ((result ≡ meant) × Appends old new text) ⊎ ((result ≡ status.WriteFault) × TookSome old new text)
+
+-- the sink took all of what is due for the input with this status
+abbrev pub TookDue : Job → Option (List ℕ) → Option (List ℕ) → List ℕ → Status → Type 0
+TookDue job old new input s = (text : List ℕ) × Due job input s text × Appends old new text
+
+-- what a job over this input leaves in the sink: after a read fault nothing new, after a write fault a proper prefix of what
+-- is due with some status, else all that is due with the status answered
+abbrev pub Leaves : Job → Option (List ℕ) → Option (List ℕ) → List ℕ → Status → Type 0
+Leaves job old new input status.ReadFault = Keeps old new
+Leaves job old new input status.WriteFault = (meant : Status) × (text : List ℕ) × Due job input meant text × TookSome old new text
+Leaves job old new input s = TookDue job old new input s
+
+-- an input that a job takes: its program is accepted, and its script too where the job reads one
+abbrev pub Takes : Job → List ℕ → Type 0
+Takes job.Check input = HasProgram input
+Takes job.Run input = HasScript input
+Takes job.Ref input = HasScript input
+
+-- an input that its job takes is answered with the job's output, if no stream fails and memory lasts; `run` may say that
+-- it is not of the first form
+abbrev pub Completes : Job → Status → Type 0
+Completes job status.Rest = Unit {0}
+Completes job.Ref status.Stopped = Unit {0}
+Completes job.Run status.Unbuilt = Unit {0}
+Completes job status.ReadFault = Unit {0}
+Completes job status.WriteFault = Unit {0}
+Completes job status.NoMemory = Unit {0}
+Completes job _ = ⊥
