@@ -1,8 +1,8 @@
 #!/usr/bin/env bash
-# Times `ml5 ref`: an endless function at 5,000 steps a site with 1, 8 and 32 sessions, where time is to grow as the sessions;
-# a fold over a list of 500 elements; a text that is doubled 12 times. Prints seconds, peak memory in KiB, and the growth of
-# the seconds against the sessions of the row before, which is to stay near 1. Each is to take under two seconds and under
-# 512 MiB.
+# Times `ml5 ref`: an endless function at 5,000 steps a site with 1, 8 and 32 sessions, where time is to grow as the
+# sessions; a fold over a list of 500 elements, which ends at its 5,000 steps; a text that is doubled 12 times. Prints seconds,
+# peak memory in KiB, and the growth of the seconds a session against the row before, which is to stay near 1. Each is to
+# take under two seconds and under 512 MiB.
 set -u
 cd "$(dirname "$0")/.." || exit 1
 . bench/measure.sh
