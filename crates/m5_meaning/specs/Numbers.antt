@@ -1,5 +1,5 @@
 -- Integers of 64 bits, which wrap, and what the operators make of them.
-use Rattle.std.specs.Prelude.{ℤ, pos, ◌+ℤ◌, ◌-ℤ◌, ◌*ℤ◌, int_div}
+use Rattle.std.specs.Prelude.{ℤ, int_div}
 use Rattle.std.specs.Int.{int_wrap, w64}
 
 -- the signed number of 64 bits that stands for the number

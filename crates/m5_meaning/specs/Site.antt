@@ -3,7 +3,6 @@ use Rattle.std.specs.Prelude.{ℕ, ◌+◌, Bool, List, sum_by}
 use Rattle.m5_terms.specs.Expression.{Expression}
 use Rattle.m5_typing.specs.Program.{ProgramTerm}
 use Rattle.m5_terms.specs.Size.{frame_size, focus_size}
-use Rattle.m5_terms.specs.declared.types.World.{World}
 use Rattle.m5_terms.specs.declared.thread.Frame.{Frame}
 use Rattle.m5_terms.specs.declared.thread.Focus.{Focus}
 

@@ -1,13 +1,11 @@
 -- What a site does next: a local step of its front thread, or an ask with what the answer makes of the site.
-use Rattle.std.specs.Prelude.{ℕ, zero, suc, ◌+◌, Bool, true, false, nat_lt, nat_le, if◌then◌else◌, List, [], ◌∷◌, ◌++◌, length, sum_by, slice_get, slice_set, Option, Some, None}
+use Rattle.std.specs.Prelude.{ℕ, zero, suc, ◌+◌, Bool, true, nat_lt, nat_le, if◌then◌else◌, List, [], ◌∷◌, ◌++◌, length, sum_by, slice_get, slice_set, Option, Some, None}
 use Rattle.m5_terms.specs.Expression.{Expression, leaf, unary, binary}
 use Rattle.m5_terms.specs.TypeExpression as type
 use Rattle.m5_terms.specs.Machine.{Next, goes, asks, wrong}
 use Rattle.m5_terms.specs.Asks.{Query, say, set, get_text, on, read, write, watch, send, take, stop, Reply, done, found, missing, message, fired, event}
 use Rattle.m5_terms.specs.declared.types.World.{World}
-use Rattle.m5_terms.specs.declared.ask.Cause.{Cause}
 use Rattle.m5_terms.specs.declared.ask.Cause.TheVariants.{Table}
-use Rattle.m5_terms.specs.declared.form.LeafForm.{LeafForm}
 use Rattle.m5_terms.specs.declared.form.LeafForm.TheVariants as leaf_form
 use Rattle.m5_terms.specs.declared.form.UnaryForm.TheVariants as unary_form
 use Rattle.m5_terms.specs.declared.form.BinaryForm.TheVariants as binary_form

@@ -1,5 +1,5 @@
 -- A text is read line by line.
-use Rattle.std.proofs.Common.{◌≡◌, ◌≢◌, ℕ, ◌+◌, ◌≤◌, ◌<◌, eqb, List, [], ◌∷◌, length, take, drop, Result, Ok, Err, refl, ap, sym, ◌∙◌, arith}
+use Rattle.std.proofs.Common.{◌≡◌, ◌≢◌, ℕ, ◌+◌, ◌≤◌, ◌<◌, eqb, List, [], ◌∷◌, length, take, drop, Ok, Err, refl, ap, sym, ◌∙◌, arith}
 use Rattle.std.specs.List.{slice_split, position_or_len}
 use Rattle.std.specs.Str.Lines.{lines, lines_of_parts, strip_carriage_return}
 use Rattle.std.proofs.lemmas.Bool.Decides.{nat_tests}
@@ -14,7 +14,7 @@ use Rattle.m5_script.specs.declared.read.ScriptEnd.TheVariants.{Line, Memory}
 use Rattle.m5_script.specs.Fields.{span}
 use Rattle.m5_script.specs.Reading.{fresh, finished, IsReading}
 use Rattle.m5_script.proofs.Rules.{fresh_holds}
-use Rattle.m5_script.specs.Script.{Fault, in_line, after_line, read_lines, in_full, script_of, Ends, EndsLine}
+use Rattle.m5_script.specs.Script.{in_line, after_line, read_lines, in_full, script_of, Ends, EndsLine}
 
 pub strip_nothing : (l : List ℕ) → length l ≡ 0 → l ≡ strip_carriage_return l
 strip_nothing [] h = refl

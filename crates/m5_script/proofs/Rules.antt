@@ -1,8 +1,8 @@
 -- A line without a fault keeps what holds of a reading.
-use Rattle.std.proofs.Common.{◌≡◌, ◌≢◌, ℕ, zero, suc, ◌+◌, ◌≤◌, ◌<◌, Bool, true, false, not, ◌||◌, List, [], ◌∷◌, ◌++◌, length, take, get_or, Option, Some, None, refl, ap, sym, ◌∙◌, arith}
+use Rattle.std.proofs.Common.{◌≡◌, ◌≢◌, ℕ, zero, suc, ◌+◌, ◌≤◌, ◌<◌, Bool, true, false, not, ◌||◌, List, [], ◌∷◌, ◌++◌, length, take, get_or, Option, Some, None, refl, sym, arith}
 use Rattle.std.specs.Prelude.{nat_le, nat_lt, IfSome}
 use Rattle.std.specs.Option.{unwrap_or}
-use Rattle.std.specs.List.{list_any, list_all, All, AllPass}
+use Rattle.std.specs.List.{list_any, list_all, All}
 use Rattle.std.proofs.lemmas.Bool.Decides.{nat_tests}
 use Rattle.std.proofs.lemmas.List.{take_all, length-append}
 use Rattle.std.proofs.lemmas.List.Elements.{All-push}
@@ -17,7 +17,7 @@ use Rattle.m5_script.specs.declared.form.Form.{Form}
 use Rattle.m5_script.specs.declared.form.Form.TheVariants as form
 use Rattle.m5_script.specs.declared.reading.Reading.{Reading}
 use Rattle.m5_script.specs.Line.{IsForm}
-use Rattle.m5_script.specs.Scenario.{AreItems, IsScript, IsPair, IsEvent, IsRaw, IsSite, same_key, is_sealed}
+use Rattle.m5_script.specs.Scenario.{AreItems, IsScript, IsPair, IsEvent, IsRaw, IsSite, same_key}
 use Rattle.m5_script.specs.Reading.{within, names_session, is_late, is_again, is_beyond, is_forged, is_many, first_fault, fault_of, next, fresh, finished, IsReading}
 
 pub take_short : (s : List ℕ) → length s < 8 → s ≡ take 8 s

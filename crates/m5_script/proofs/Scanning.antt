@@ -1,6 +1,6 @@
 -- What one more byte or word does to a field that is being read.
-use Rattle.std.proofs.Common.{◌≡◌, ◌≢◌, ℕ, zero, suc, ◌+◌, ◌≤◌, ◌<◌, Bool, true, false, not, List, [], ◌∷◌, ◌++◌, length, take, drop, get_or, Option, Some, None, refl, ap, sym, ◌∙◌, arith, inl, inr, add-one}
-use Rattle.std.specs.List.{slice_split, take_while, prefix_len, position_or_len}
+use Rattle.std.proofs.Common.{◌≡◌, ◌≢◌, ℕ, ◌+◌, ◌≤◌, ◌<◌, List, [], ◌∷◌, ◌++◌, length, take, drop, get_or, Option, Some, None, refl, ap, sym, ◌∙◌, arith, add-one}
+use Rattle.std.specs.List.{slice_split, position_or_len}
 use Rattle.std.proofs.Math.Seq.{drop-cons}
 use Rattle.std.proofs.lemmas.List.{drop_all, take_all, drop-drop, length-drop}
 use Rattle.std.proofs.lemmas.List.Folds.{length-prefix_len}
@@ -9,7 +9,7 @@ use Rattle.std.proofs.lemmas.List.Sums.{fails_before_first}
 use Rattle.std.proofs.lemmas.List.Splits.{slice_split_first, slice_split_none}
 use Rattle.m5_terms.specs.declared.types.World.TheVariants.{Any}
 use Rattle.m5_script.specs.declared.items.SiteName.{SiteName}
-use Rattle.m5_script.specs.Fields.{◌>>=◌, is_blank, is_solid, span, before_dot, number_of, world_of, site_of, sites_from}
+use Rattle.m5_script.specs.Fields.{◌>>=◌, is_blank, is_solid, span, before_dot, number_of, site_of, sites_from}
 use Rattle.m5_script.specs.Line.{AreSites}
 
 pub one_at : (s : List ℕ) (i : ℕ) → i < length s → drop i s ≡ get_or s i 0 ∷ drop (i + 1) s

@@ -1,5 +1,5 @@
 -- What a chain of steps gives where one of them fails or succeeds.
-use Rattle.std.proofs.Common.{◌≡◌, ◌≢◌, List, [], ◌∷◌, ℕ, length, Option, Some, None, refl, arith}
+use Rattle.std.proofs.Common.{◌≡◌, ◌≢◌, List, [], ◌∷◌, length, Option, Some, None, refl, arith}
 use Rattle.m5_script.specs.declared.form.LineEnd.{LineEnd}
 use Rattle.m5_script.specs.declared.form.LineEnd.TheVariants.{Syntax, Memory}
 use Rattle.m5_script.specs.declared.items.SiteName.{SiteName}

@@ -1,13 +1,13 @@
 -- What one more byte does to a quoted text or to bytes in hexadecimal.
-use Rattle.std.proofs.Common.{◌≡◌, ◌≢◌, ℕ, ◌+◌, ◌*◌, ◌≤◌, ◌<◌, Bool, true, false, cond, eqb, List, [], ◌∷◌, ◌++◌, length, drop, get_or, Option, Some, None, refl, ap, subst, sym, ◌∙◌, arith}
+use Rattle.std.proofs.Common.{◌≡◌, ◌≢◌, ℕ, ◌+◌, ◌*◌, ◌≤◌, ◌<◌, Bool, true, false, cond, eqb, List, [], ◌∷◌, ◌++◌, length, drop, get_or, Option, Some, None, refl, subst, sym, ◌∙◌, arith}
 use Rattle.std.specs.Prelude.{IfSome}
-use Rattle.std.proofs.lemmas.List.{drop_all, get_or_past}
+use Rattle.std.proofs.lemmas.List.{drop_all}
 use Rattle.std.proofs.lemmas.List.Folds.{list_all-append}
 use Rattle.std.proofs.lemmas.Bool.Decides.{nat_tests}
 use Rattle.m5_terms.specs.Text.{text_byte, IsText}
 use Rattle.m5_script.specs.declared.form.LineEnd.{LineEnd}
 use Rattle.m5_script.specs.declared.form.LineEnd.TheVariants.{Syntax, Memory}
-use Rattle.m5_script.specs.Fields.{◌>>=◌, skipped, Refuses}
+use Rattle.m5_script.specs.Fields.{skipped, Refuses}
 use Rattle.m5_script.specs.Quoted.{escape, is_plain, is_parted, text_rest, text_at, nibble, bytes_from}
 use Rattle.m5_script.proofs.Scanning.{one_at, two_at, last_at}
 

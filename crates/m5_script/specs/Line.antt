@@ -1,5 +1,5 @@
 -- What a line of a script says, by its keyword.
-use Rattle.std.specs.Prelude.{◌≡◌, ◌≢◌, ℕ, Bool, true, false, ◌==◌, List, [], ◌∷◌, length, Option, Some, None, if◌then◌else◌, codes}
+use Rattle.std.specs.Prelude.{◌≢◌, ℕ, Bool, true, ◌==◌, List, [], ◌∷◌, length, Option, Some, None, if◌then◌else◌, codes}
 use Rattle.std.specs.List.{slice_split, All}
 use Rattle.std.specs.Str.{bytes_eq}
 use Rattle.m5_terms.specs.Text.{IsText}

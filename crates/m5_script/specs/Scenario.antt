@@ -4,7 +4,6 @@ use Rattle.std.specs.List.{All, AllPairs}
 use Rattle.std.specs.Str.{bytes_eq}
 use Rattle.m5_terms.specs.Seal.{seal_bytes}
 use Rattle.m5_terms.specs.Text.{IsText}
-use Rattle.m5_terms.specs.declared.types.World.{World}
 use Rattle.m5_terms.specs.declared.types.World.TheVariants.{Any}
 use Rattle.m5_script.specs.declared.items.TextPair.{TextPair}
 use Rattle.m5_script.specs.declared.items.PageEvent.{PageEvent}
