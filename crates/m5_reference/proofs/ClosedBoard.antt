@@ -1,5 +1,5 @@
 -- The board's answer to a closed ask is closed, and so is the board after it.
-use Rattle.std.proofs.Common.{◌≡◌, ◌==◌, ℕ, Bool, true, false, if◌then◌else◌, Option, Some, None, List, [], ◌∷◌, ◌++◌}
+use Rattle.std.proofs.Common.{◌==◌, ℕ, Bool, true, false, if◌then◌else◌, Option, Some, None, List, [], ◌∷◌, ◌++◌}
 use Rattle.std.specs.List.{All}
 use Rattle.std.specs.Str.{bytes_eq}
 use Rattle.std.proofs.lemmas.List.Elements.{All-head, All-tail, All-push}
@@ -7,7 +7,7 @@ use Rattle.m5_terms.specs.TypeExpression.{same_world}
 use Rattle.m5_terms.specs.Worlds.{site_worlds}
 use Rattle.m5_terms.specs.declared.types.World.{World}
 use Rattle.m5_terms.specs.declared.types.World.TheVariants.{Home, Server, Any}
-use Rattle.m5_terms.specs.Asks.{Query, say, set, get_text, on, read, write, watch, send, take, stop, Reply}
+use Rattle.m5_terms.specs.Asks.{Query, say, set, get_text, on, read, write, watch, send, take, stop}
 use Rattle.m5_meaning.specs.Site.{Item}
 use Rattle.m5_network.specs.Board.{Board, Desk, Watch, Happening, Trigger, Answered, at_session, at_world, with_link, posted, text_at, text_or_missing, text_or_empty, take_event, take_trigger, take_other, take_from, take_at, answer_of}
 use Rattle.m5_source_site.specs.ClosedSite.{IsClosedItem, IsClosedQuery, IsClosedReply}

@@ -1,5 +1,5 @@
 -- What a turn leaves is closed.
-use Rattle.std.proofs.Common.{◌≡◌, ℕ, Bool, true, false, [], Option, Some, None, refl, sym, ap, subst, ◌∙◌, if◌then◌else◌}
+use Rattle.std.proofs.Common.{◌≡◌, ℕ, Bool, true, false, [], Option, Some, None, sym, ap, subst, ◌∙◌, if◌then◌else◌}
 use Rattle.std.specs.Prelude.{Result, Ok, Err, IfOk}
 use Rattle.m5_terms.specs.declared.types.World.{World}
 use Rattle.m5_terms.specs.declared.types.World.TheVariants.{Any}
@@ -9,10 +9,9 @@ use Rattle.m5_meaning.specs.Site.{Program, Site, Item, raw}
 use Rattle.m5_meaning.specs.Step.{after_take, site_next}
 use Rattle.m5_script.specs.Scenario.{Scenario}
 use Rattle.m5_network.specs.Board.{Board, answer_of}
-use Rattle.m5_source_site.specs.ClosedSite.{IsClosedSite, IsClosedQuery, IsClosedReply, IsClosedNext}
+use Rattle.m5_source_site.specs.ClosedSite.{IsClosedSite, IsClosedNext}
 use Rattle.m5_source_site.specs.Waits.{resumed}
 use Rattle.m5_source_site.specs.declared.resume.Wait.{Wait}
-use Rattle.m5_board.specs.BoardLists.{BoardLists, board_of}
 use Rattle.m5_reference.specs.Ahead.{kept}
 use Rattle.m5_reference.specs.ClosedTurn.{IsClosedBoard, IsClosedLeft, IsClosedTurned}
 use Rattle.m5_reference.specs.FirstMoment.{AsksFree}

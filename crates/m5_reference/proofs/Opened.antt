@@ -1,5 +1,5 @@
 -- The code's opening is the definition's.
-use Rattle.std.proofs.Common.{◌≡◌, ◌≢◌, ◌⊎◌, inl, inr, ℕ, zero, suc, ◌+◌, ◌<◌, ◌≤◌, ◌==◌, ◌&&◌, Bool, true, false, List, [], ◌∷◌, ◌++◌, map, length, get_or, take, Option, Some, None, refl, sym, ap, subst, ◌∙◌, arith}
+use Rattle.std.proofs.Common.{◌≡◌, ◌≢◌, ◌⊎◌, inl, inr, ℕ, zero, suc, ◌+◌, ◌<◌, ◌≤◌, ◌==◌, ◌&&◌, Bool, false, List, [], ◌∷◌, ◌++◌, map, length, get_or, take, Some, refl, sym, ap, subst, ◌∙◌, arith}
 use Rattle.std.specs.Prelude.{filter, slice_get, All}
 use Rattle.std.proofs.Math.Bool.{and-false}
 use Rattle.std.proofs.lemmas.Bool.{ne_eqb}
@@ -14,7 +14,7 @@ use Rattle.m5_script.specs.Scenario.{Scenario, IsThere, IsEvent, IsRaw, IsScript
 use Rattle.m5_script.specs.declared.items.TextPair.{TextPair}
 use Rattle.m5_script.specs.declared.items.PageEvent.{PageEvent}
 use Rattle.m5_script.specs.declared.items.RawItem.{RawItem}
-use Rattle.m5_network.specs.Board.{Desk, Board, Happening}
+use Rattle.m5_network.specs.Board.{Desk, Happening}
 use Rattle.m5_network.specs.Opening.{happening, raw_from, raw_items, opening_desk, opening_board}
 use Rattle.m5_board.specs.BoardLists.{Links, DeskLists, BoardLists, link_of, desk_of, empty_desk, desk_or_empty, desk_at, board_of}
 use Rattle.m5_reference.specs.OpeningLists.{session_events, raw_links, joined_links, desk_opened, desks_opened}

@@ -1,18 +1,15 @@
 -- The code's run stands for the opening, and its sites and its board have no free variables.
-use Rattle.std.proofs.Common.{◌≡◌, ◌≢◌, ℕ, zero, suc, ◌<◌, ◌≤◌, List, [], ◌∷◌, length, map, filter, Option, Some, None, All, refl, sym, ap, subst, ◌∙◌, arith}
+use Rattle.std.proofs.Common.{◌≡◌, ◌≢◌, ℕ, zero, suc, ◌<◌, ◌≤◌, List, [], ◌∷◌, length, Option, Some, All, refl, sym, ap, subst, ◌∙◌, arith}
 use Rattle.std.specs.Prelude.{slice_get, replicate}
 use Rattle.std.proofs.lemmas.List.{length-replicate, get_or-replicate}
 use Rattle.std.proofs.lemmas.Option.{slice_get-get_or}
 use Rattle.std.proofs.lemmas.List.Elements.{All-nil, All-cons, All-map}
 use Rattle.m5_terms.specs.declared.types.World.{World}
 use Rattle.m5_terms.specs.declared.types.World.TheVariants.{Home, Server, Any}
-use Rattle.m5_terms.specs.declared.ask.Entry.{Entry}
-use Rattle.m5_meaning.specs.Site.{Program, Thread, Site, Item, raw}
+use Rattle.m5_meaning.specs.Site.{Program, raw}
 use Rattle.m5_script.specs.Scenario.{Scenario}
 use Rattle.m5_script.specs.declared.items.RawItem.{RawItem}
-use Rattle.m5_network.specs.Board.{Board}
-use Rattle.m5_network.specs.Opening.{opening, opening_board, opening_site, opening_threads}
-use Rattle.m5_network.specs.Run.{IsSite}
+use Rattle.m5_network.specs.Opening.{opening_board, opening_site, opening_threads}
 use Rattle.m5_sound.proofs.Worlds.{is-real}
 use Rattle.m5_source_site.specs.ClosedSite.{IsClosedFrame, IsClosedThread, IsClosedSite, IsClosedProgram, IsClosedItem}
 use Rattle.m5_terms.specs.Closed.{IsClosed}
@@ -21,7 +18,6 @@ use Rattle.m5_reference.specs.Ahead.{IsAhead}
 use Rattle.m5_reference.specs.ClosedTurn.{IsClosedBoard, IsClosedLeft}
 use Rattle.m5_reference.specs.Finishing.{Opens}
 use Rattle.m5_reference.specs.OpeningLists.{sites_opened}
-use Rattle.m5_reference.specs.Running.{StandsFor, IsReady}
 use Rattle.m5_reference.specs.SiteRows.{site_in, site_of_row, site_at}
 use Rattle.m5_reference.specs.declared.running.Running.{Running}
 use Rattle.m5_reference.specs.declared.sites.SessionSites.{SessionSites}

@@ -3,7 +3,7 @@ use Rattle.std.proofs.Common.{◌≡◌, ℕ, List, [], ◌∷◌, Option, Some,
 use Rattle.m5_terms.specs.Worlds.{site_worlds}
 use Rattle.m5_terms.specs.declared.types.World.{World}
 use Rattle.m5_terms.specs.declared.types.World.TheVariants.{Home, Server, Any}
-use Rattle.m5_terms.specs.Asks.{Query, say, set, get_text, on, read, write, watch, send, take, stop, Reply, done, found, missing, nothing}
+use Rattle.m5_terms.specs.Asks.{Query, say, set, get_text, on, read, write, watch, send, take, stop, nothing}
 use Rattle.m5_meaning.specs.Site.{Item}
 use Rattle.m5_network.specs.Board.{Board, Desk, Happening, Trigger, Answered, text_at, text_or_missing, text_or_empty, take_event, take_trigger, take_other, take_from, take_at, answer_of}
 

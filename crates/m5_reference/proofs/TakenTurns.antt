@@ -1,5 +1,5 @@
 -- What one turn makes of a run on its way.
-use Rattle.std.proofs.Common.{◌≡◌, ℕ, ◌≤◌, ◌++◌, true, List, [], ◌∷◌, length, Option, Some, None, inl, inr, refl, sym, ap, subst, ◌∙◌, append-nil}
+use Rattle.std.proofs.Common.{◌≡◌, ℕ, ◌++◌, true, [], ◌∷◌, length, Option, Some, None, inr, refl, sym, ap, subst, ◌∙◌, append-nil}
 use Rattle.m5_terms.specs.declared.types.World.{World}
 use Rattle.m5_terms.specs.declared.ask.Act.{Act}
 use Rattle.m5_terms.specs.declared.ask.Entry.{Entry}
@@ -7,7 +7,7 @@ use Rattle.m5_meaning.specs.Site.{Program, Site}
 use Rattle.m5_script.specs.Scenario.{Scenario}
 use Rattle.m5_script.specs.declared.items.SiteName.{SiteName}
 use Rattle.m5_network.specs.Run.{Network, IsSite, with_site}
-use Rattle.m5_board.specs.BoardLists.{BoardLists, board_of}
+use Rattle.m5_board.specs.BoardLists.{board_of}
 use Rattle.m5_reference.specs.Ahead.{IsAhead}
 use Rattle.m5_reference.specs.ClosedTurn.{IsClosedBoard, IsClosedLeft}
 use Rattle.m5_reference.specs.Running.{StandsFor, IsReady, TakesTurn}

@@ -1,16 +1,15 @@
 -- A whole run: the named turns and then the rounds, in which no site strands.
-use Rattle.std.proofs.Common.{◌≡◌, ◌≢◌, ℕ, ◌≤◌, ◌++◌, List, [], length, map, sum_by, All, refl, sym, ap, subst, ◌∙◌}
+use Rattle.std.proofs.Common.{◌≡◌, ℕ, ◌≤◌, ◌++◌, List, [], map, All, refl, sym, ap, subst, ◌∙◌}
 use Rattle.std.specs.Prelude.{Result, Ok, Err, IfOk}
 use Rattle.std.proofs.lemmas.List.Elements.{All-from_recursion, recursion_from_All, All-weaker}
 use Rattle.m5_terms.specs.declared.ask.End.{End}
 use Rattle.m5_terms.specs.declared.ask.Entry.{Entry}
-use Rattle.m5_terms.specs.declared.ask.History.{History}
 use Rattle.m5_typing.specs.Program.{IsProgram}
-use Rattle.m5_meaning.specs.Site.{Program, Item}
+use Rattle.m5_meaning.specs.Site.{Program}
 use Rattle.m5_script.specs.Scenario.{Scenario, IsScript}
 use Rattle.m5_script.specs.declared.items.SiteName.{SiteName}
 use Rattle.m5_network.specs.Claim.{has_seal}
-use Rattle.m5_network.specs.Entries.{Deed, entry_of}
+use Rattle.m5_network.specs.Entries.{entry_of}
 use Rattle.m5_network.specs.Opening.{opening}
 use Rattle.m5_network.specs.Plain.{sites_of, joined}
 use Rattle.m5_network.specs.Run.{Network}

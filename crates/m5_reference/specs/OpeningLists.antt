@@ -1,8 +1,8 @@
 -- The opening as the code's lists.
-use Rattle.std.specs.Prelude.{ℕ, zero, suc, ◌==◌, List, [], ◌∷◌, ◌++◌, map, filter, Option, Some, None, slice_get}
+use Rattle.std.specs.Prelude.{ℕ, zero, suc, ◌==◌, List, [], ◌∷◌, ◌++◌, map, filter, Some}
 use Rattle.m5_terms.specs.declared.types.World.{World}
 use Rattle.m5_terms.specs.declared.types.World.TheVariants.{Home, Server, Any}
-use Rattle.m5_meaning.specs.Site.{Program, Site}
+use Rattle.m5_meaning.specs.Site.{Program}
 use Rattle.m5_script.specs.Scenario.{Scenario}
 use Rattle.m5_script.specs.declared.items.PageEvent.{PageEvent}
 use Rattle.m5_script.specs.declared.items.RawItem.{RawItem}

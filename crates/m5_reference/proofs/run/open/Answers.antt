@@ -1,5 +1,5 @@
 use Rattle.std.proofs.Common.{ap, ◌∙◌}
-use Rattle.std.specs.Prelude.{ℕ, replicate}
+use Rattle.std.specs.Prelude.{replicate}
 use Rattle.m5_script.specs.Scenario.{Scenario}
 use Rattle.m5_reference.specs.Budget.{with_lesser_budget}
 use Rattle.m5_reference.specs.OpeningLists.{sites_opened}

@@ -1,8 +1,5 @@
-use Rattle.std.proofs.Common.{◌≡◌, ℕ, length, Option, Some, None, refl, sym, ap, subst, ◌∙◌}
-use Rattle.m5_meaning.specs.Site.{Site}
-use Rattle.m5_network.specs.Run.{Network, IsSite}
+use Rattle.std.proofs.Common.{◌≡◌, length, Some, None, refl, sym, subst, ◌∙◌}
 use Rattle.m5_reference.specs.Ahead.{IsAhead}
-use Rattle.m5_reference.specs.ClosedTurn.{IsClosedLeft}
 use Rattle.m5_reference.specs.SiteRows.{site_at}
 use Rattle.m5_reference.proofs.TakenTurns.{skips, acts, rests, ready-after, ready-back}
 use Rattle.m5_reference.proofs.running.take_turn.Goals as goal

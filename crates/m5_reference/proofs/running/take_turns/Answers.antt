@@ -1,4 +1,4 @@
-use Rattle.std.proofs.Common.{List, length, take, All, get_or, refl, subst, ◌∙◌}
+use Rattle.std.proofs.Common.{List, length, get_or, refl, subst, ◌∙◌}
 use Rattle.std.proofs.lemmas.List.Elements.{All-get_or}
 use Rattle.std.proofs.lemmas.List.{take_all}
 use Rattle.m5_terms.specs.declared.types.World.TheVariants.{Home}

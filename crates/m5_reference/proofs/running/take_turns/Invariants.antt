@@ -1,4 +1,4 @@
-use Rattle.std.proofs.Common.{List, All, take}
+use Rattle.std.proofs.Common.{All, take}
 use Rattle.m5_script.specs.Scenario.{Scenario}
 use Rattle.m5_script.specs.declared.items.SiteName.{SiteName}
 use Rattle.m5_network.specs.Run.{Network, IsSite}
