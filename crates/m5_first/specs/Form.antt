@@ -2,7 +2,7 @@
 use Rattle.std.specs.Prelude.{ℕ, Bool, true, false, ◌&&◌, not, List, Option, Some, None, slice_get, codes}
 use Rattle.std.specs.List.{list_all}
 use Rattle.std.specs.Str.{bytes_eq}
-use Rattle.m5_tree.specs.Syntax.{Syntax, leaf, unary, binary, ternary}
+use Rattle.m5_tree.specs.Syntax.{Syntax, binary}
 use Rattle.m5_tree.specs.declared.form.BinaryForm.TheVariants.{Val, Do}
 use Rattle.m5_tree.specs.declared.tree.Program.{Program}
 

@@ -1,5 +1,5 @@
 -- A text that reads is not refused.
-use Rattle.std.proofs.Common.{◌≡◌, ◌≢◌, ℕ, List, Result, Ok, Err, sym, subst, refl, ◌∙◌}
+use Rattle.std.proofs.Common.{◌≡◌, ℕ, List, Result, Ok, Err, sym, subst}
 use Rattle.m5_lex.specs.declared.place.Place.{Place}
 use Rattle.m5_lex.specs.Lexed.{lexed, Fault}
 use Rattle.m5_lex.specs.Tokens.{Listing}
@@ -20,7 +20,6 @@ use Rattle.m5_elaborate.specs.declared.end.TypeEnd.TheVariants as types
 use Rattle.m5_front.specs.Reading.{HasTree, IsRead, IsNoRefusal}
 use Rattle.m5_front.specs.Refusal.{refusal_of, type_refusal_of}
 use Rattle.m5_front.specs.declared.refusal.FrontEnd.{FrontEnd}
-use Rattle.m5_front.specs.declared.refusal.FrontEnd.TheVariants.{Memory}
 
 one_listing : (o : Result Listing Fault) (a b : Listing) → o ≡ Ok a → o ≡ Ok b → a ≡ b
 one_listing o a b h k = cc
