@@ -11,7 +11,6 @@ pub mod Closed
 pub mod Worlds
 pub mod Seal
 pub mod Text
-pub mod Asks
 pub mod Machine
 pub mod Keeping
 pub mod Diagram
