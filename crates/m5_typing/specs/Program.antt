@@ -5,7 +5,7 @@ use Rattle.m5_terms.specs.Expression.{Expression, leaf, unary, binary, ternary}
 use Rattle.m5_terms.specs.TypeExpression.{TypeExpression, unit, function, type_node_count}
 use Rattle.m5_terms.specs.Text.{text_byte}
 use Rattle.m5_terms.specs.declared.types.World.{World}
-use Rattle.m5_terms.specs.declared.types.World.TheVariants.{Home, Server, Any}
+use Rattle.m5_terms.specs.declared.types.World.TheVariants.{Home, Any}
 use Rattle.m5_terms.specs.declared.form.LeafForm.{LeafForm}
 use Rattle.m5_terms.specs.declared.form.LeafForm.TheVariants as leaf_form
 use Rattle.m5_terms.specs.declared.form.UnaryForm.{UnaryForm}
@@ -20,9 +20,8 @@ use Rattle.m5_typing.specs.Typing.{Typed}
 
 -- a function that is declared at any is valid
 abbrev pub bound_at : World → TypeExpression → Bound
-bound_at Home A = local Home A
-bound_at Server A = local Server A
 bound_at Any A = valid A
+bound_at w A = local w A
 
 abbrev pub declared_type : Function → TypeExpression
 declared_type g = function g.ty g.result
