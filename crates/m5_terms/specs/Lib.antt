@@ -6,7 +6,6 @@ pub mod Substitution
 pub mod Opened
 pub mod Size
 pub mod Primitives
-pub mod Taken
 pub mod Closed
 pub mod Worlds
 pub mod Seal

@@ -15,6 +15,7 @@ pub mod seal;
 pub mod size;
 pub mod substitute;
 pub mod taken;
+pub mod term;
 #[cfg(test)]
 mod tests;
 pub mod text;
