@@ -15,3 +15,5 @@ pub mod Machine
 pub mod Keeping
 pub mod Diagram
 pub mod CountsDown
+pub mod InText
+pub mod Outcome
