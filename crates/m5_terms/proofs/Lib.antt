@@ -1,2 +1,5 @@
 pub mod Diagrams
 pub mod Passes
+pub mod Rests
+pub mod Digits
+pub mod Quoting

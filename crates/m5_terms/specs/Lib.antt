@@ -17,3 +17,5 @@ pub mod Diagram
 pub mod CountsDown
 pub mod InText
 pub mod Outcome
+pub mod Decimal
+pub mod Quoted
