@@ -10,7 +10,6 @@ pub mod Closed
 pub mod Worlds
 pub mod Seal
 pub mod Text
-pub mod Asks
 pub mod Machine
 pub mod Keeping
 pub mod Diagram
