@@ -9,7 +9,7 @@ cd "$(dirname "$0")/.." || exit 1
 
 # Where the headline's statement begins, and where the statements of other claims begin.
 headline='m5_cli/specs/Leaves m5_cli/specs/Words m5_cli/specs/Status m5_base/specs/Causes'
-claims='m5_base/specs/Held m5_terms/specs/Diagram m5_lex/specs/Shown m5_scope/specs/Binders m5_typing/specs/Laws
+claims='m5_terms/specs/Diagram m5_lex/specs/Shown m5_scope/specs/Binders m5_typing/specs/Laws
   m5_network/specs/Laws m5_sound/specs/Laws m5_hall/specs/Passes m5_hall/specs/History'
 
 # The files that are reached by `use` lines from those that are named, one on a line.
@@ -43,7 +43,7 @@ declared() {
 
 # Which section of docs/ names which file: lines of a file, and a link to the section.
 sections() {
-  for page in docs/language.md docs/formats.md docs/hall.md docs/proofs.md; do
+  for page in docs/language.md docs/formats.md docs/hall.md docs/proofs.md docs/claims.md; do
     awk -v page="${page#docs/}" '
       /^#+ / { title = $0; sub(/^#+ /, "", title) }
       /^Definitions: / { inside = 1 }
