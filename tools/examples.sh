@@ -7,7 +7,7 @@ program=crates/ml5/out/ml5
 [ -x "$program" ] || { echo "examples: $program is not built"; exit 1; }
 passed=0
 failed=0
-for source in examples/*.ml5 examples/refused/*.ml5; do
+for source in examples/*.ml5 examples/tutorial/*.ml5 examples/refused/*.ml5; do
   [ -e "$source" ] || continue
   name=${source%.ml5}
   job=run

@@ -118,7 +118,7 @@ impl DeskRow {
         }
     }
 
-    /// Takes the first item off the link from home to a world.
+    /// Takes the first item off the link from one world to another.
     pub fn receive(&mut self, from: World, to: World) -> Option<LinkItem>
         requires { from ≢ Any }
         ensures { MatchOption result ((links_to (links_from self.old from) to ≡ []) × (self.new ≡ self.old)) (λ i. (links_to (links_from self.old from) to ≡ i ∷ links_to (links_from self.new from) to) × (self.new ≡ with_links_from from (with_links_to to (links_to (links_from self.new from) to) (links_from self.old from)) self.old)) }

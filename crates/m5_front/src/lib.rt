@@ -1,4 +1,4 @@
-//! A program text read whole: its tree and its resolved program, or how it is refused.
+//! A program text read whole: its tree, its resolved and its typed program, or how it is refused.
 #![tactic(auto)]
 
 pub mod program;

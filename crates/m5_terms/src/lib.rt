@@ -1,4 +1,4 @@
-//! What every other crate speaks of: types, terms, threads, and what a site asks and is answered.
+//! What every other crate speaks of: types, terms, threads, asks and answers, machines, and passes that keep behaviours.
 #![tactic(auto)]
 
 pub mod ask;
