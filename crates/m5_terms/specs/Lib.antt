@@ -9,6 +9,9 @@ pub mod Primitives
 pub mod Taken
 pub mod Closed
 pub mod Worlds
+pub mod PerWorld
+pub mod Lends
+pub mod PerWorldLaws
 pub mod Seal
 pub mod Text
 pub mod Asks
