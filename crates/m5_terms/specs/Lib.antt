@@ -8,6 +8,9 @@ pub mod Size
 pub mod Primitives
 pub mod Closed
 pub mod Worlds
+pub mod PerWorld
+pub mod Lends
+pub mod PerWorldLaws
 pub mod Seal
 pub mod Text
 pub mod Machine

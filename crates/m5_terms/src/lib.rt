@@ -11,6 +11,7 @@ pub mod keeping;
 pub mod listed;
 pub mod node;
 pub mod opened;
+pub mod per_world;
 pub mod primitives;
 pub mod quoted;
 pub mod seal;
