@@ -4,3 +4,4 @@ pub mod Rests
 pub mod Digits
 pub mod Quoting
 pub mod PerWorlds
+pub mod SiteWorlds
