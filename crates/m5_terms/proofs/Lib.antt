@@ -3,3 +3,4 @@ pub mod Passes
 pub mod Rests
 pub mod Digits
 pub mod Quoting
+pub mod Tables

@@ -19,3 +19,4 @@ pub mod InText
 pub mod Outcome
 pub mod Decimal
 pub mod Quoted
+pub mod Table
