@@ -17,6 +17,7 @@ pub mod quoted;
 pub mod seal;
 pub mod size;
 pub mod substitute;
+pub mod table;
 pub mod taken;
 pub mod term;
 #[cfg(test)]
