@@ -3,8 +3,9 @@
 use crate::end::ScopeEnd;
 use crate::resolve::resolve;
 use m5_lex::Place;
-use m5_raw::node::{Node, Term};
+use m5_raw::node::Node;
 use m5_terms::listed::Listed;
+use m5_terms::term::Term;
 use m5_terms::types::World;
 use m5_tree::expr::{Expr, Part, Parts};
 use m5_tree::form::{BinaryForm, LeafForm, TypeJoin, TypePlain, UnaryForm};

@@ -1,7 +1,7 @@
 -- The primitives' names, types and worlds.
 use Rattle.std.specs.Prelude.{ℕ, List, codes}
 use Rattle.m5_terms.specs.declared.types.World.{World}
-use Rattle.m5_terms.specs.declared.types.World.TheVariants.{Home, Server}
+use Rattle.m5_terms.specs.declared.types.World.TheVariants.{Home, Server, Panel}
 use Rattle.m5_terms.specs.TypeExpression.{TypeExpression, unit, string, product, sum, function}
 use Rattle.m5_terms.specs.declared.types.Primitive.{Primitive}
 use Rattle.m5_terms.specs.declared.types.Primitive.TheVariants as primitive
@@ -15,6 +15,7 @@ primitive_world primitive.On = Home
 primitive_world primitive.Read = Server
 primitive_world primitive.Write = Server
 primitive_world primitive.Watch = Server
+primitive_world primitive.Show = Panel
 
 -- that of a call which registers a handler: a place and what is to be done there
 abbrev pub registration : TypeExpression
@@ -29,6 +30,7 @@ primitive_type primitive.On = registration
 primitive_type primitive.Read = function string (sum unit string)
 primitive_type primitive.Write = function (product string string) unit
 primitive_type primitive.Watch = registration
+primitive_type primitive.Show = function string unit
 
 -- the name by which an extern declares it
 abbrev pub primitive_name : Primitive → List ℕ
@@ -39,3 +41,4 @@ primitive_name primitive.On = codes "on"
 primitive_name primitive.Read = codes "read"
 primitive_name primitive.Write = codes "write"
 primitive_name primitive.Watch = codes "watch"
+primitive_name primitive.Show = codes "show"

@@ -3,7 +3,7 @@ use Rattle.std.specs.Prelude.{◌≡◌, ℕ, ◌+◌, Bool, true, false, ◌&&�
 use mathlib.Core.Path.{ap, refl}
 use base.Stored.{Gv, gnil, gnum, gcons, Coded}
 use Rattle.m5_terms.specs.declared.types.World.{World}
-use Rattle.m5_terms.specs.declared.types.World.TheVariants.{Home, Server, Any}
+use Rattle.m5_terms.specs.declared.types.World.TheVariants.{Home, Server, Panel, Any}
 use Rattle.m5_terms.specs.contracts.types.World as world
 
 pub data TypeExpression : Type 0 where
@@ -85,6 +85,7 @@ type_code = record { code = code; inj = code-inj }
 abbrev pub same_world : World → World → Bool
 same_world Home Home = true
 same_world Server Server = true
+same_world Panel Panel = true
 same_world Any Any = true
 same_world _ _ = false
 

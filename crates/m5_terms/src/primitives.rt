@@ -19,6 +19,7 @@ pub fn extern_of(name: &[u8]) -> Option<Prim>
         b"read" => Some(Prim::Read),
         b"write" => Some(Prim::Write),
         b"watch" => Some(Prim::Watch),
+        b"show" => Some(Prim::Show),
         _ => None,
     }
 }
@@ -43,6 +44,7 @@ impl Primitive {
         match self {
             Prim::Say | Prim::SetText | Prim::GetText | Prim::On => World::Home,
             Prim::Read | Prim::Write | Prim::Watch => World::Server,
+            Prim::Show => World::Panel,
         }
     }
 
@@ -51,7 +53,7 @@ impl Primitive {
         ensures { IfOk result (λ t. t ≡ primitive_type self) }
     {
         match self {
-            Prim::Say => from(alloc, Ty::new(Shape::Str), Ty::new(Shape::Unit)),
+            Prim::Say | Prim::Show => from(alloc, Ty::new(Shape::Str), Ty::new(Shape::Unit)),
             Prim::GetText => from(alloc, Ty::new(Shape::Str), Ty::new(Shape::Str)),
             Prim::SetText | Prim::Write => {
                 from(

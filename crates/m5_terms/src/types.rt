@@ -12,6 +12,7 @@ use std::marker::Model;
 pub enum World {
     Home,
     Server,
+    Panel,
     Any,
 }
 
@@ -125,6 +126,7 @@ pub enum Primitive {
     Read,
     Write,
     Watch,
+    Show,
 }
 
 /// antt has a module of this name, so the enum has a longer one.
@@ -207,8 +209,10 @@ pub fn is_same_world(a: World, b: World) -> bool
     ensures exact { IsTrue result ↔ (a ≡ b) }
 {
     match (a, b) {
-        (World::Home, World::Home) | (World::Server, World::Server) | (World::Any, World::Any) =>
-            true,
+        (World::Home, World::Home)
+        | (World::Server, World::Server)
+        | (World::Panel, World::Panel)
+        | (World::Any, World::Any) => true,
         _ => false,
     }
 }

@@ -27,7 +27,8 @@ alternatives phrase.FunctionName =
     ∷ (keep kind.Name ∷ tok kind.AtSign ∷ nt phrase.World ∷ []) ∷ []
 alternatives phrase.World =
     (keep kind.Home ∷ declare (declaration.OfWorld world.Home) ∷ [])
-    ∷ (keep kind.Server ∷ declare (declaration.OfWorld world.Server) ∷ []) ∷ []
+    ∷ (keep kind.Server ∷ declare (declaration.OfWorld world.Server) ∷ [])
+    ∷ (keep kind.Panel ∷ declare (declaration.OfWorld world.Panel) ∷ []) ∷ []
 alternatives phrase.Written = (enter ∷ nt phrase.SumType ∷ nt phrase.WrittenRest ∷ leave ∷ []) ∷ []
 alternatives phrase.WrittenRest = (tok kind.To ∷ pass ∷ nt phrase.Written ∷ write (written.OfJoin join.Fun) ∷ []) ∷ [] ∷ []
 alternatives phrase.SumType = (nt phrase.ProductType ∷ nt phrase.SumTypeRest ∷ []) ∷ []
@@ -93,6 +94,7 @@ alternatives phrase.Atom =
     ∷ (keep kind.Here ∷ build (expr.OfPlain plain.Here) ∷ [])
     ∷ (keep kind.Home ∷ build (expr.OfPlain plain.Home) ∷ [])
     ∷ (keep kind.Server ∷ build (expr.OfPlain plain.Server) ∷ [])
+    ∷ (keep kind.Panel ∷ build (expr.OfPlain plain.Panel) ∷ [])
     ∷ (keep kind.Nil ∷ tok kind.OpenSquare ∷ nt phrase.Written ∷ tok kind.CloseSquare ∷ build expr.OfNil ∷ [])
     ∷ (keep kind.Open ∷ build expr.NoParts ∷ nt phrase.Group ∷ build expr.OfTuple ∷ [])
     ∷ (keep kind.Let ∷ nt phrase.Declarations ∷ tok kind.End ∷ build expr.Group ∷ [])

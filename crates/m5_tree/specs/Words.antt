@@ -20,6 +20,7 @@ leaf_of plain.False = leaf.Bool false
 leaf_of plain.Here = leaf.Here
 leaf_of plain.Home = leaf.Addr world.Home
 leaf_of plain.Server = leaf.Addr world.Server
+leaf_of plain.Panel = leaf.Addr world.Panel
 
 abbrev pub unary_of : Prefix → UnaryForm
 unary_of prefix.Fst = unary.Fst

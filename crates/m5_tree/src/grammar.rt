@@ -196,6 +196,7 @@ pub enum Plain {
     Here,
     Home,
     Server,
+    Panel,
 }
 
 /// A keyword or symbol before one expression.
