@@ -12,7 +12,11 @@ trap 'rm -f "$made" "$page"' EXIT
 
 # A page with the block of a script.
 check() {
-  if ! bash "tools/$2" > "$made"; then failed=1; fi
+  if ! bash "tools/$2" > "$made"; then
+    echo "check-docs: tools/$2 failed, so $1 is not compared"
+    failed=1
+    return
+  fi
   if [ "$(grep -cxF "<!-- made by tools/$2 -->" "$1")" != 1 ]; then
     echo "check-docs: $1 has no block made by tools/$2"
     failed=1
