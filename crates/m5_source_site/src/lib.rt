@@ -17,6 +17,4 @@ pub mod resume;
 pub mod rules;
 pub mod site;
 mod size;
-#[cfg(test)]
-mod tests;
 pub mod thread;
