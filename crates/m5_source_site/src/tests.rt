@@ -7,7 +7,6 @@ ghost use Rattle.m5_source_site.specs.ClosedSite.{IsClosedSite, IsClosedProgram}
 
 use crate::advance::{Progress, advance};
 use crate::query::{SiteItem, SiteQuery, SiteReply};
-use crate::queue::Queue;
 use crate::resume::Waiting;
 use crate::rules::Rules;
 use crate::site::Site;
@@ -15,6 +14,7 @@ use crate::thread::SiteThread;
 use m5_terms::form::{BinaryForm, LeafForm, UnaryForm};
 use m5_terms::listed::Listed;
 use m5_terms::node::{Node, NodeBox};
+use m5_terms::queue::Queue;
 use m5_terms::text::Text;
 use m5_terms::thread::Focus;
 use m5_terms::types::{Op, Prim, World};

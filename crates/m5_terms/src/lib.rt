@@ -12,6 +12,7 @@ pub mod node;
 pub mod opened;
 pub mod per_world;
 pub mod primitives;
+pub mod queue;
 pub mod seal;
 pub mod size;
 pub mod substitute;
