@@ -4,7 +4,8 @@ use Rattle.std.proofs.lemmas.List.Elements.{All-map}
 use Rattle.m5_terms.specs.Expression.{Expression, leaf, unary, binary, ternary}
 use Rattle.m5_terms.specs.Substitution.{among, unary_binders, binary_binders, second_binders, third_binders}
 use Rattle.m5_terms.specs.Machine.{Comes}
-use Rattle.m5_terms.specs.Asks.{say, take, done, nothing}
+use Rattle.m5_terms.specs.declared.ask.AskOf.TheVariants as ask
+use Rattle.m5_terms.specs.declared.ask.AnswerOf.TheVariants as answer
 use Rattle.m5_terms.specs.declared.types.World.{World}
 use Rattle.m5_terms.specs.declared.types.World.TheVariants.{Home, Server, Any}
 use Rattle.m5_terms.specs.declared.form.LeafForm.TheVariants as leaf_form
@@ -48,7 +49,7 @@ close-nothing (ternary f a b c) =
 -- ---- the run
 
 abbrev said_deed : List ℕ → Deed Item
-said_deed t = record { session = 1; world = Home; query = say t; reply = done }
+said_deed t = record { session = 1; world = Home; query = ask.Say t; reply = answer.Done }
 
 -- the home stands at these threads and has not stopped, and the rest is as at the opening
 record Stands (N : Network) (s : Site) (before : List Thread) : Type 0 where
@@ -95,8 +96,8 @@ run P (t ∷ ls) N s before after at p =
 
 -- ---- its end
 
-nothing-there : (N : Network) (w : World) → N.board ≡ opening_board silent → (answer_of (opening_board silent) 1 w take).reply ≡ nothing → (answer_of N.board 1 w take).reply ≡ nothing
-nothing-there N w e h = subst (λ b. (answer_of b 1 w take).reply ≡ nothing) (sym e) h
+nothing-there : (N : Network) (w : World) → N.board ≡ opening_board silent → (answer_of (opening_board silent) 1 w ask.Take).reply ≡ answer.Nothing → (answer_of N.board 1 w ask.Take).reply ≡ answer.Nothing
+nothing-there N w e h = subst (λ b. (answer_of b 1 w ask.Take).reply ≡ answer.Nothing) (sym e) h
 
 home-rests : (P : Program) (N : Network) (s : Site) (threads : List Thread) → Stands N s threads → Leads P Home s threads (ended [] Home []) → IsAtRest P N 1 Home
 home-rests P N s threads at p =

@@ -2,7 +2,9 @@
 use Rattle.std.proofs.Common.{◌≡◌, ℕ, List, [], ◌∷◌, ◌++◌, Option, Some, None, refl, ◌∙◌, subst}
 use Rattle.m5_terms.specs.Expression.{Expression, leaf, unary, binary, ternary}
 use Rattle.m5_terms.specs.Machine.{asks, Comes}
-use Rattle.m5_terms.specs.Asks.{say, Reply, done}
+use Rattle.m5_terms.specs.declared.ask.AskOf.TheVariants as ask
+use Rattle.m5_terms.specs.declared.ask.AnswerOf.{AnswerOf}
+use Rattle.m5_terms.specs.declared.ask.AnswerOf.TheVariants as answer
 use Rattle.m5_terms.specs.declared.types.World.{World}
 use Rattle.m5_terms.specs.declared.types.Primitive.TheVariants as primitive
 use Rattle.m5_terms.specs.declared.form.LeafForm.{LeafForm}
@@ -25,9 +27,9 @@ pub record Says (P : Program) (u : World) (s : Site) (before : List Thread) (t :
   pub steps : ℕ
   pub waiting : Site
   pub comes : Comes (site_next P u) steps (with_threads s before) waiting
-  pub resume : Reply Item → Option Site
-  pub asking : site_next P u waiting ≡ asks (say t) resume
-  pub resumed : resume done ≡ Some (with_threads after_site after)
+  pub resume : AnswerOf Item → Option Site
+  pub asking : site_next P u waiting ≡ asks (ask.Say t) resume
+  pub resumed : resume answer.Done ≡ Some (with_threads after_site after)
   pub stopped : after_site.stopped ≡ s.stopped
 
 -- the site asks to say the texts, one after the other, and goes from these threads to those

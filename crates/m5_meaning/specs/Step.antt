@@ -3,7 +3,10 @@ use Rattle.std.specs.Prelude.{ℕ, zero, suc, ◌+◌, Bool, true, nat_lt, nat_l
 use Rattle.m5_terms.specs.Expression.{Expression, leaf, unary, binary}
 use Rattle.m5_terms.specs.TypeExpression as type
 use Rattle.m5_terms.specs.Machine.{Next, goes, asks, wrong}
-use Rattle.m5_terms.specs.Asks.{Query, say, set, get_text, on, read, write, watch, send, take, stop, Reply, done, found, missing, message, fired, event}
+use Rattle.m5_terms.specs.declared.ask.AskOf.{AskOf}
+use Rattle.m5_terms.specs.declared.ask.AskOf.TheVariants as ask
+use Rattle.m5_terms.specs.declared.ask.AnswerOf.{AnswerOf}
+use Rattle.m5_terms.specs.declared.ask.AnswerOf.TheVariants as answer
 use Rattle.m5_terms.specs.declared.types.World.{World}
 use Rattle.m5_terms.specs.declared.ask.Cause.TheVariants.{Table}
 use Rattle.m5_terms.specs.declared.form.LeafForm.TheVariants as leaf_form
@@ -20,7 +23,7 @@ use Rattle.m5_meaning.specs.Reduction.{Reduced, gives, makes_text, goes_on, make
 use Rattle.m5_meaning.specs.Reduction as reduction
 
 abbrev pub SiteNext : Type 0
-SiteNext = Next Site (Query Item) (Reply Item)
+SiteNext = Next Site (AskOf Item) (AnswerOf Item)
 
 abbrev pub thread_of : List Frame → Focus → Thread
 thread_of fs f = record { frames = fs; focus = f }
@@ -37,13 +40,13 @@ stepped P made s ts = record s { threads = ts; steps = s.steps + 1; weight = s.w
 abbrev pub is_full : {A : Type 0} → List A → Bool
 is_full xs = nat_le 4096 (length xs)
 
-abbrev pub stopped_by : Site → Reply Item → Option Site
-stopped_by s done = Some (record s { stopped = true })
+abbrev pub stopped_by : Site → AnswerOf Item → Option Site
+stopped_by s answer.Done = Some (record s { stopped = true })
 stopped_by s _ = None
 
 -- in place of a step that would add to what is full
 abbrev pub stops_full : Site → SiteNext
-stops_full s = asks (stop Table) (stopped_by s)
+stops_full s = asks (ask.Stop Table) (stopped_by s)
 
 -- a node without evaluated parts is a value, but for here, which becomes its address, and spawn, which adds a thread last
 abbrev pub atom : Program → Site → List Thread → List Frame → World → Expression → SiteNext
@@ -65,21 +68,21 @@ stored P s ts fs w n v None = wrong
 stored P s ts fs w n v (Some old) = goes (record (stepped P 0 s (thread_of fs (Returned w unit_value) ∷ ts)) { cells = slice_set s.cells n v })
 
 -- after a primitive that only tells, or a send
-abbrev pub after_done : Program → Site → List Thread → Reply Item → Option Site
-after_done P s ts done = Some (stepped P 0 s ts)
+abbrev pub after_done : Program → Site → List Thread → AnswerOf Item → Option Site
+after_done P s ts answer.Done = Some (stepped P 0 s ts)
 after_done P s ts _ = None
 
-abbrev pub after_get_text : Program → Site → List Thread → List Frame → World → Reply Item → Option Site
-after_get_text P s ts fs w (found t) = Some (stepped P (length t) s (thread_of fs (Returned w (text_value t)) ∷ ts))
+abbrev pub after_get_text : Program → Site → List Thread → List Frame → World → AnswerOf Item → Option Site
+after_get_text P s ts fs w (answer.Found t) = Some (stepped P (length t) s (thread_of fs (Returned w (text_value t)) ∷ ts))
 after_get_text P s ts fs w _ = None
 
-abbrev pub after_read : Program → Site → List Thread → List Frame → World → Reply Item → Option Site
-after_read P s ts fs w (found t) = Some (stepped P (length t) s (thread_of fs (Returned w (unary (unary_form.Inr (unit_or type.string)) (text_value t))) ∷ ts))
-after_read P s ts fs w missing = Some (stepped P 0 s (thread_of fs (Returned w (unary (unary_form.Inl (unit_or type.string)) unit_value)) ∷ ts))
+abbrev pub after_read : Program → Site → List Thread → List Frame → World → AnswerOf Item → Option Site
+after_read P s ts fs w (answer.Found t) = Some (stepped P (length t) s (thread_of fs (Returned w (unary (unary_form.Inr (unit_or type.string)) (text_value t))) ∷ ts))
+after_read P s ts fs w answer.Missing = Some (stepped P 0 s (thread_of fs (Returned w (unary (unary_form.Inl (unit_or type.string)) unit_value)) ∷ ts))
 after_read P s ts fs w _ = None
 
 -- a handler joins its site's list, and its number is the list's length before
-abbrev pub adds_handler : Program → Site → List Thread → List Frame → World → (ℕ → Query Item) → Expression → SiteNext
+abbrev pub adds_handler : Program → Site → List Thread → List Frame → World → (ℕ → AskOf Item) → Expression → SiteNext
 adds_handler P s ts fs w query h =
     if is_full s.handlers then stops_full s
     else asks (query (length s.handlers)) (after_done P (record s { handlers = s.handlers ++ h ∷ [] }) (thread_of fs (Returned w unit_value) ∷ ts))
@@ -94,14 +97,14 @@ outcome P u s ts fs w (makes_cell v) =
     else goes (record (stepped P 0 s (thread_of fs (Returned w (leaf (leaf_form.CellAt u (length s.cells)))) ∷ ts)) { cells = s.cells ++ v ∷ [] })
 outcome P u s ts fs w (loads n) = loaded P s ts fs w (slice_get s.cells n)
 outcome P u s ts fs w (stores n v) = stored P s ts fs w n v (slice_get s.cells n)
-outcome P u s ts fs w (leaves v e) = asks (send v (thread (thread_of (Return w ∷ fs) (Eval v e)))) (after_done P s ts)
-outcome P u s ts fs w (says t) = asks (say t) (after_done P s (thread_of fs (Returned w unit_value) ∷ ts))
-outcome P u s ts fs w (sets e t) = asks (set e t) (after_done P s (thread_of fs (Returned w unit_value) ∷ ts))
-outcome P u s ts fs w (writes k t) = asks (write k t) (after_done P s (thread_of fs (Returned w unit_value) ∷ ts))
-outcome P u s ts fs w (gets e) = asks (get_text e) (after_get_text P s ts fs w)
-outcome P u s ts fs w (reads k) = asks (read k) (after_read P s ts fs w)
-outcome P u s ts fs w (handles e h) = adds_handler P s ts fs w (on e) h
-outcome P u s ts fs w (watches k h) = adds_handler P s ts fs w (watch k) h
+outcome P u s ts fs w (leaves v e) = asks (ask.Send v (thread (thread_of (Return w ∷ fs) (Eval v e)))) (after_done P s ts)
+outcome P u s ts fs w (says t) = asks (ask.Say t) (after_done P s (thread_of fs (Returned w unit_value) ∷ ts))
+outcome P u s ts fs w (sets e t) = asks (ask.Set e t) (after_done P s (thread_of fs (Returned w unit_value) ∷ ts))
+outcome P u s ts fs w (writes k t) = asks (ask.Write k t) (after_done P s (thread_of fs (Returned w unit_value) ∷ ts))
+outcome P u s ts fs w (gets e) = asks (ask.GetText e) (after_get_text P s ts fs w)
+outcome P u s ts fs w (reads k) = asks (ask.Read k) (after_read P s ts fs w)
+outcome P u s ts fs w (handles e h) = adds_handler P s ts fs w (ask.On e) h
+outcome P u s ts fs w (watches k h) = adds_handler P s ts fs w (ask.Watch k) h
 outcome P u s ts fs w reduction.wrong = wrong
 
 -- part k of a node is looked at, with the node as the frame that waits for it
@@ -118,7 +121,7 @@ returned P u s ts [] w v = goes (stepped P 0 s ts)
 returned P u s ts (Part x e k ∷ fs) w v =
     let filled = fill e k v in
     if nat_lt (suc k) (parts filled) then part_begun P s ts fs x filled (suc k) else outcome P u s ts fs x (reduced P u filled)
-returned P u s ts (Return x ∷ fs) w v = asks (send x (thread (thread_of fs (Returned x v)))) (after_done P s ts)
+returned P u s ts (Return x ∷ fs) w v = asks (ask.Send x (thread (thread_of fs (Returned x v)))) (after_done P s ts)
 
 abbrev pub focused : Program → World → Site → List Thread → List Frame → Focus → SiteNext
 focused P u s ts fs (Eval w e) = evaluated P s ts fs w e (parts e)
@@ -138,15 +141,15 @@ abbrev pub begun : Site → List Thread → Site
 begun s ts = record s { threads = s.threads ++ ts; weight = s.weight + sum_by thread_size ts }
 
 -- a thread that arrives goes into the queue, and raw bytes change nothing
-abbrev pub after_take : World → Site → Reply Item → Option Site
-after_take u s (message w (thread t)) = Some (begun s (t ∷ []))
-after_take u s (message w (raw bytes)) = Some s
-after_take u s (fired k n t) = Some (begun s (handler_threads u s (n ∷ []) t))
-after_take u s (event e ns t) = Some (begun s (handler_threads u s ns t))
+abbrev pub after_take : World → Site → AnswerOf Item → Option Site
+after_take u s (answer.Message w (thread t)) = Some (begun s (t ∷ []))
+after_take u s (answer.Message w (raw bytes)) = Some s
+after_take u s (answer.Fired k n t) = Some (begun s (handler_threads u s (n ∷ []) t))
+after_take u s (answer.Event e ns t) = Some (begun s (handler_threads u s ns t))
 after_take u s _ = None
 
 abbrev pub front : Program → World → Site → List Thread → SiteNext
-front P u s [] = asks take (after_take u s)
+front P u s [] = asks ask.Take (after_take u s)
 front P u s (t ∷ ts) = focused P u s ts t.frames t.focus
 
 -- what a site at the world u does next

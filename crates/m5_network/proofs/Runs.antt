@@ -2,7 +2,8 @@
 use Rattle.std.proofs.Common.{◌≡◌, ℕ, zero, suc, Option, Some, None, [], ◌∷◌, refl, sym, ap, subst, ◌∙◌}
 use Rattle.m5_terms.specs.declared.ask.Cause.{Cause}
 use Rattle.m5_terms.specs.Machine.{Next, goes, asks, Comes}
-use Rattle.m5_terms.specs.Asks.{Query, Reply}
+use Rattle.m5_terms.specs.declared.ask.AskOf.{AskOf}
+use Rattle.m5_terms.specs.declared.ask.AnswerOf.{AnswerOf}
 use Rattle.m5_meaning.specs.Site.{Program, Site, Item}
 use Rattle.m5_meaning.specs.Step.{site_next}
 use Rattle.m5_script.specs.Scenario.{Scenario}
@@ -37,7 +38,7 @@ first_ask State Ask Answer next (suc n) (suc m) s t u q p f g c a d b =
     goes-inj : (n : Next State Ask Answer) (x y : State) → n ≡ goes x → n ≡ goes y → x ≡ y
     goes-inj n x y d e = cc
 
-asks-inj : (q p : Query Item) (f g : Reply Item → Option Site) → asks q f ≡ asks p g → (q ≡ p) × (f ≡ g)
+asks-inj : (q p : AskOf Item) (f g : AnswerOf Item → Option Site) → asks q f ≡ asks p g → (q ≡ p) × (f ≡ g)
 asks-inj q p f g e = (cc, cc)
 
 some-inj : (a b : Site) → Some a ≡ Some b → a ≡ b

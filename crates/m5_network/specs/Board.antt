@@ -3,7 +3,10 @@ use Rattle.std.specs.Prelude.{ℕ, ◌==◌, if◌then◌else◌, List, [], ◌�
 use Rattle.std.specs.Str.{bytes_eq}
 use Rattle.m5_terms.specs.Worlds.{site_worlds}
 use Rattle.m5_terms.specs.TypeExpression.{same_world}
-use Rattle.m5_terms.specs.Asks.{Query, say, set, get_text, on, read, write, watch, send, take, stop, Reply, done, found, missing, message, fired, event, nothing}
+use Rattle.m5_terms.specs.declared.ask.AskOf.{AskOf}
+use Rattle.m5_terms.specs.declared.ask.AskOf.TheVariants as ask
+use Rattle.m5_terms.specs.declared.ask.AnswerOf.{AnswerOf}
+use Rattle.m5_terms.specs.declared.ask.AnswerOf.TheVariants as answer
 use Rattle.m5_terms.specs.declared.types.World.{World}
 use Rattle.m5_terms.specs.declared.types.World.TheVariants.{Home, Server, Any}
 use Rattle.m5_script.specs.declared.items.TextPair.{TextPair}
@@ -77,56 +80,56 @@ handlers_of (h ∷ hs) element = if bytes_eq h.element element then h.number ∷
 
 -- an answer with the board after it
 pub record Answered (Item : Type 0) : Type 0 where
-  pub reply : Reply Item
+  pub reply : AnswerOf Item
   pub board : Board Item
 
-abbrev pub answered : {Item : Type 0} → Reply Item → Board Item → Answered Item
+abbrev pub answered : {Item : Type 0} → AnswerOf Item → Board Item → Answered Item
 answered r b = record { reply = r; board = b }
 
 -- the answer, with the session's desk changed
-abbrev pub answered_at : {Item : Type 0} → Reply Item → ℕ → Desk Item → Board Item → Answered Item
+abbrev pub answered_at : {Item : Type 0} → AnswerOf Item → ℕ → Desk Item → Board Item → Answered Item
 answered_at r s d b = answered r (record b { desks = at_session s d b.desks })
 
-abbrev pub text_or_missing : {Item : Type 0} → Option (List ℕ) → Reply Item
-text_or_missing None = missing
-text_or_missing (Some t) = found t
+abbrev pub text_or_missing : {Item : Type 0} → Option (List ℕ) → AnswerOf Item
+text_or_missing None = answer.Missing
+text_or_missing (Some t) = answer.Found t
 
-abbrev pub text_or_empty : {Item : Type 0} → Option (List ℕ) → Reply Item
-text_or_empty None = found []
-text_or_empty (Some t) = found t
+abbrev pub text_or_empty : {Item : Type 0} → Option (List ℕ) → AnswerOf Item
+text_or_empty None = answer.Found []
+text_or_empty (Some t) = answer.Found t
 
 abbrev pub take_event : {Item : Type 0} → Board Item → ℕ → Desk Item → List Happening → Answered Item
-take_event b s d [] = answered nothing b
-take_event b s d (e ∷ es) = answered_at (event e.element (handlers_of d.handlers e.element) e.text) s (record d { events = es }) b
+take_event b s d [] = answered answer.Nothing b
+take_event b s d (e ∷ es) = answered_at (answer.Event e.element (handlers_of d.handlers e.element) e.text) s (record d { events = es }) b
 
 abbrev pub take_trigger : {Item : Type 0} → Board Item → ℕ → Desk Item → List Trigger → Answered Item
-take_trigger b s d [] = answered nothing b
-take_trigger b s d (t ∷ ts) = answered_at (fired t.key t.number t.text) s (record d { triggers = ts }) b
+take_trigger b s d [] = answered answer.Nothing b
+take_trigger b s d (t ∷ ts) = answered_at (answer.Fired t.key t.number t.text) s (record d { triggers = ts }) b
 
 -- without a message, a home takes its next event and a server its first trigger
 abbrev pub take_other : {Item : Type 0} → Board Item → ℕ → World → Answered Item
 take_other b s Home = take_event b s (b.desks s) (b.desks s).events
 take_other b s Server = take_trigger b s (b.desks s) (b.desks s).triggers
-take_other b s Any = answered nothing b
+take_other b s Any = answered answer.Nothing b
 
 -- a message comes first: the first item of the first link to the site that is not empty
 abbrev pub take_from : {Item : Type 0} → Board Item → ℕ → World → World → List Item → Answered Item → Answered Item
 take_from b s w v [] otherwise = otherwise
-take_from b s w v (i ∷ is) otherwise = answered_at (message v i) s (with_link v w is (b.desks s)) b
+take_from b s w v (i ∷ is) otherwise = answered_at (answer.Message v i) s (with_link v w is (b.desks s)) b
 
 abbrev pub take_at : {Item : Type 0} → Board Item → ℕ → World → List World → Answered Item
 take_at b s w [] = take_other b s w
 take_at b s w (v ∷ vs) = take_from b s w v ((b.desks s).link v w) (take_at b s w vs)
 
 -- the board's answer to what session s asks at w
-abbrev pub answer_of : {Item : Type 0} → Board Item → ℕ → World → Query Item → Answered Item
-answer_of b s w (say t) = answered done b
-answer_of b s w (set e t) = answered_at done s (record (b.desks s) { texts = set_at (b.desks s).texts e t }) b
-answer_of b s w (get_text e) = answered (text_or_empty (text_at (b.desks s).texts e)) b
-answer_of b s w (on e n) = answered_at done s (record (b.desks s) { handlers = (b.desks s).handlers ++ record { element = e; number = n } ∷ [] }) b
-answer_of b s w (read k) = answered (text_or_missing (text_at b.pairs k)) b
-answer_of b s w (write k t) = answered done (record { pairs = set_at b.pairs k t; watches = b.watches; desks = posted k t b.watches b.desks })
-answer_of b s w (watch k n) = answered done (record b { watches = b.watches ++ record { key = k; session = s; number = n } ∷ [] })
-answer_of b s w (send v i) = answered_at done s (with_link w v ((b.desks s).link w v ++ i ∷ []) (b.desks s)) b
-answer_of b s w take = take_at b s w site_worlds
-answer_of b s w (stop c) = answered done b
+abbrev pub answer_of : {Item : Type 0} → Board Item → ℕ → World → AskOf Item → Answered Item
+answer_of b s w (ask.Say t) = answered answer.Done b
+answer_of b s w (ask.Set e t) = answered_at answer.Done s (record (b.desks s) { texts = set_at (b.desks s).texts e t }) b
+answer_of b s w (ask.GetText e) = answered (text_or_empty (text_at (b.desks s).texts e)) b
+answer_of b s w (ask.On e n) = answered_at answer.Done s (record (b.desks s) { handlers = (b.desks s).handlers ++ record { element = e; number = n } ∷ [] }) b
+answer_of b s w (ask.Read k) = answered (text_or_missing (text_at b.pairs k)) b
+answer_of b s w (ask.Write k t) = answered answer.Done (record { pairs = set_at b.pairs k t; watches = b.watches; desks = posted k t b.watches b.desks })
+answer_of b s w (ask.Watch k n) = answered answer.Done (record b { watches = b.watches ++ record { key = k; session = s; number = n } ∷ [] })
+answer_of b s w (ask.Send v i) = answered_at answer.Done s (with_link w v ((b.desks s).link w v ++ i ∷ []) (b.desks s)) b
+answer_of b s w ask.Take = take_at b s w site_worlds
+answer_of b s w (ask.Stop c) = answered answer.Done b

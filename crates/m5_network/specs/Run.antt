@@ -2,7 +2,10 @@
 use Rattle.std.specs.Prelude.{◌≡◌, ◌≢◌, ◌⊎◌, ℕ, ◌+◌, ◌-◌, ◌≤◌, true, false, List, [], ◌∷◌, Option, Some, None, Contains}
 use Rattle.m5_terms.specs.Worlds.{site_worlds}
 use Rattle.m5_terms.specs.Machine.{goes, asks, wrong, Comes}
-use Rattle.m5_terms.specs.Asks.{Query, take, stop, Reply, done, nothing}
+use Rattle.m5_terms.specs.declared.ask.AskOf.{AskOf}
+use Rattle.m5_terms.specs.declared.ask.AskOf.TheVariants as ask
+use Rattle.m5_terms.specs.declared.ask.AnswerOf.{AnswerOf}
+use Rattle.m5_terms.specs.declared.ask.AnswerOf.TheVariants as answer
 use Rattle.m5_terms.specs.declared.types.World.{World}
 use Rattle.m5_terms.specs.declared.ask.Cause.{Cause}
 use Rattle.m5_terms.specs.declared.ask.Cause.TheVariants.{Spent, Region, Table}
@@ -33,7 +36,7 @@ pub record IsSite (S : Scenario) (s : ℕ) (w : World) : Type 0 where
   pub world : Contains site_worlds w
 
 -- the site comes by local steps to its next ask
-pub record NextAsk (P : Program) (w : World) (from : Site) (query : Query Item) (resume : Reply Item → Option Site) : Type 0 where
+pub record NextAsk (P : Program) (w : World) (from : Site) (query : AskOf Item) (resume : AnswerOf Item → Option Site) : Type 0 where
   pub steps : ℕ
   pub waiting : Site
   pub comes : Comes (site_next P w) steps from waiting
@@ -41,12 +44,12 @@ pub record NextAsk (P : Program) (w : World) (from : Site) (query : Query Item) 
 
 -- the site's next ask gets the board's answer, which is something
 pub record Answers (P : Program) (N : Network) (s : ℕ) (w : World) (d : Deed Item) (M : Network) : Type 0 where
-  pub resume : Reply Item → Option Site
+  pub resume : AnswerOf Item → Option Site
   pub next : NextAsk P w (N.site s w) d.query resume
   pub session : d.session ≡ s
   pub world : d.world ≡ w
   pub reply : d.reply ≡ (answer_of N.board s w d.query).reply
-  pub told : d.reply ≢ nothing
+  pub told : d.reply ≢ answer.Nothing
   pub site : Site
   pub resumed : resume d.reply ≡ Some site
   pub after : M ≡ with_site s w site (answer_of N.board s w d.query).board N
@@ -73,7 +76,7 @@ pub record IsLicensed (P : Program) (S : Scenario) (w : World) (cause : Cause) (
 
 pub record Stops (P : Program) (S : Scenario) (N : Network) (s : ℕ) (w : World) (cause : Cause) (d : Deed Item) (M : Network) : Type 0 where
   pub licence : IsLicensed P S w cause (N.site s w)
-  pub deed : d ≡ record { session = s; world = w; query = stop cause; reply = done }
+  pub deed : d ≡ record { session = s; world = w; query = ask.Stop cause; reply = answer.Done }
   pub after : M ≡ with_site s w (record (N.site s w) { stopped = true }) N.board N
 
 abbrev pub Makes : Program → Scenario → Network → Place → Deed Item → Network → Option Cause → Type 0
@@ -95,9 +98,9 @@ Run P S N (p ∷ ps) [] M = ⊥
 
 -- the site's next ask is a look, and the board has nothing for it
 pub record IsAtRest (P : Program) (N : Network) (s : ℕ) (w : World) : Type 0 where
-  pub resume : Reply Item → Option Site
-  pub next : NextAsk P w (N.site s w) take resume
-  pub nothing_there : (answer_of N.board s w take).reply ≡ nothing
+  pub resume : AnswerOf Item → Option Site
+  pub next : NextAsk P w (N.site s w) ask.Take resume
+  pub nothing_there : (answer_of N.board s w ask.Take).reply ≡ answer.Nothing
 
 -- each site is at rest or stopped
 abbrev pub IsFinished : Program → Scenario → Network → Type 0

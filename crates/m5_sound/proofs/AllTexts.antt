@@ -3,7 +3,10 @@ use Rattle.std.proofs.Common.{ℕ, List, [], ◌∷◌, map, refl}
 use Rattle.std.specs.List.{AllByRecursion as Each}
 use Rattle.m5_terms.specs.Text.{IsText}
 use Rattle.m5_terms.specs.declared.ask.Entry.{Entry}
-use Rattle.m5_terms.specs.Asks.{Query, get_text, read, send, take, Reply, found, message, fired, event}
+use Rattle.m5_terms.specs.declared.ask.AskOf.{AskOf}
+use Rattle.m5_terms.specs.declared.ask.AskOf.TheVariants as ask
+use Rattle.m5_terms.specs.declared.ask.AnswerOf.{AnswerOf}
+use Rattle.m5_terms.specs.declared.ask.AnswerOf.TheVariants as answer
 use Rattle.m5_meaning.specs.Site.{Item, thread, raw}
 use Rattle.m5_network.specs.Claim.{has_seal}
 use Rattle.m5_network.specs.Entries.{Deed, text_found, read_shown, take_shown, shown, entry_of}
@@ -14,26 +17,26 @@ use Rattle.m5_sound.proofs.SiteTexts.{site-texts, items-texts}
 use Rattle.m5_sound.proofs.Networks.{DeedFine, reached}
 use Rattle.m5_sound.proofs.Growth.{each-map}
 
-found-texts : (r : Reply Item) → ReplyHasTexts r → IsText (text_found r)
-found-texts (found t) h = h
+found-texts : (r : AnswerOf Item) → ReplyHasTexts r → IsText (text_found r)
+found-texts (answer.Found t) h = h
 found-texts _ h = refl
 
-read-texts : (k : List ℕ) (r : Reply Item) → IsText k → ReplyHasTexts r → ActHasTexts (read_shown k r)
-read-texts k (found t) i h = (i, h)
+read-texts : (k : List ℕ) (r : AnswerOf Item) → IsText k → ReplyHasTexts r → ActHasTexts (read_shown k r)
+read-texts k (answer.Found t) i h = (i, h)
 read-texts k _ i h = i
 
-take-texts : (r : Reply Item) → ReplyHasTexts r → ActHasTexts (take_shown has_seal r)
-take-texts (message v (thread t)) h = tt
-take-texts (message v (raw bytes)) h = tt
-take-texts (fired k n t) h = h.0
-take-texts (event e ns t) h = h
+take-texts : (r : AnswerOf Item) → ReplyHasTexts r → ActHasTexts (take_shown has_seal r)
+take-texts (answer.Message v (thread t)) h = tt
+take-texts (answer.Message v (raw bytes)) h = tt
+take-texts (answer.Fired k n t) h = h.0
+take-texts (answer.Event e ns t) h = h
 take-texts _ h = tt
 
-act-texts : (q : Query Item) (r : Reply Item) → QueryHasTexts q → ReplyHasTexts r → ActHasTexts (shown has_seal q r)
-act-texts (get_text e) r h k = (h, found-texts r k)
-act-texts (read x) r h k = read-texts x r h k
-act-texts (send v i) r h k = tt
-act-texts take r h k = take-texts r k
+act-texts : (q : AskOf Item) (r : AnswerOf Item) → QueryHasTexts q → ReplyHasTexts r → ActHasTexts (shown has_seal q r)
+act-texts (ask.GetText e) r h k = (h, found-texts r k)
+act-texts (ask.Read x) r h k = read-texts x r h k
+act-texts (ask.Send v i) r h k = tt
+act-texts ask.Take r h k = take-texts r k
 act-texts _ r h k = h
 
 entries-texts : (ds : List (Deed Item)) → Each DeedHasTexts ds → Each (λ (e : Entry). ActHasTexts e.act) (map (entry_of has_seal) ds)

@@ -10,7 +10,9 @@ use Rattle.m5_terms.specs.declared.types.World.{World}
 use Rattle.m5_terms.specs.declared.types.World.TheVariants.{Home, Server, Any}
 use Rattle.m5_typing.specs.Context.{CellTypes, Setting}
 use Rattle.m5_typing.specs.Laws.{Extends}
-use Rattle.m5_terms.specs.Asks.{Query, say, set, get_text, on, read, write, watch, send, take, stop, nothing}
+use Rattle.m5_terms.specs.declared.ask.AskOf.{AskOf}
+use Rattle.m5_terms.specs.declared.ask.AskOf.TheVariants as ask
+use Rattle.m5_terms.specs.declared.ask.AnswerOf.TheVariants as answer
 use Rattle.m5_meaning.specs.Site.{Program, Item}
 use Rattle.m5_script.specs.declared.items.TextPair.{TextPair}
 use Rattle.m5_script.specs.Scenario.{IsPair}
@@ -146,16 +148,16 @@ look-typed P T b s w (v ∷ vs) n t = from-typed P T b s w v ((b.desks s).link v
 
 -- each ask
 
-pub answer-typed : (P : Program) (T : ℕ → CellTypes) (b : Board Item) (s : ℕ) (w : World) (q : Query Item) → w ≢ Any → QueryTyped (setting P (T s)) w q → BoardTyped P T b → AnswerTyped P T s w (answer_of b s w q)
-answer-typed P T b s w (say x) n a t = record { reply_ = tt; board_ = t }
-answer-typed P T b s w (set e x) n a t =
+pub answer-typed : (P : Program) (T : ℕ → CellTypes) (b : Board Item) (s : ℕ) (w : World) (q : AskOf Item) → w ≢ Any → QueryTyped (setting P (T s)) w q → BoardTyped P T b → AnswerTyped P T s w (answer_of b s w q)
+answer-typed P T b s w (ask.Say x) n a t = record { reply_ = tt; board_ = t }
+answer-typed P T b s w (ask.Set e x) n a t =
     let d = t.desks s in
     record {
       reply_ = tt;
       board_ = desk-set P T b s _ t (record { links = d.links; texts = record { page = set-texts (b.desks s).texts e x a.1 a.2 d.texts.page; handlers = d.texts.handlers; triggers = d.texts.triggers; events = d.texts.events } });
     }
-answer-typed P T b s w (get_text e) n a t = record { reply_ = or-empty (setting P (T s)) w _ (found-text (b.desks s).texts e (t.desks s).texts.page); board_ = t }
-answer-typed P T b s w (on e k) n a t =
+answer-typed P T b s w (ask.GetText e) n a t = record { reply_ = or-empty (setting P (T s)) w _ (found-text (b.desks s).texts e (t.desks s).texts.page); board_ = t }
+answer-typed P T b s w (ask.On e k) n a t =
     let d = t.desks s in
     record {
       reply_ = tt;
@@ -169,34 +171,34 @@ answer-typed P T b s w (on e k) n a t =
         };
       });
     }
-answer-typed P T b s w (read k) n a t = record { reply_ = or-missing (setting P (T s)) w _ (found-text b.pairs k t.pairs); board_ = t }
-answer-typed P T b s w (write k x) n a t = record {
+answer-typed P T b s w (ask.Read k) n a t = record { reply_ = or-missing (setting P (T s)) w _ (found-text b.pairs k t.pairs); board_ = t }
+answer-typed P T b s w (ask.Write k x) n a t = record {
   reply_ = tt;
   board_ = record { pairs = set-texts b.pairs k x a.1 a.2 t.pairs; watches = t.watches; desks = posted-typed P T k x b.watches b.desks a.1 a.2 t.desks };
 }
-answer-typed P T b s w (watch k m) n a t = record {
+answer-typed P T b s w (ask.Watch k m) n a t = record {
   reply_ = tt;
   board_ = record { pairs = t.pairs; watches = each-append (λ (w : Watch). IsText w.key) b.watches _ t.watches (a.1, tt); desks = t.desks };
 }
-answer-typed P T b s w (send v i) n a t = record {
+answer-typed P T b s w (ask.Send v i) n a t = record {
   reply_ = tt;
   board_ = desk-set P T b s _ t (link-set (setting P (T s)) (b.desks s) w v _ (t.desks s) (each-append (ItemTyped (setting P (T s)) v) ((b.desks s).link w v) (i ∷ []) ((t.desks s).links w v a.1) (a.2, tt)));
 }
-answer-typed P T b s w take n a t = look-typed P T b s w site_worlds n t
-answer-typed P T b s w (stop c) n a t = record { reply_ = tt; board_ = t }
+answer-typed P T b s w ask.Take n a t = look-typed P T b s w site_worlds n t
+answer-typed P T b s w (ask.Stop c) n a t = record { reply_ = tt; board_ = t }
 
 -- an answer that says something is of a kind that comes for the ask
 
-missing-kind : (k : List ℕ) (o : Option (List ℕ)) → IsAnswer {I = Item} (read k) (text_or_missing o)
+missing-kind : (k : List ℕ) (o : Option (List ℕ)) → IsAnswer {I = Item} (ask.Read k) (text_or_missing o)
 missing-kind k None = tt
 missing-kind k (Some t) = tt
 
-empty-kind : (k : List ℕ) (o : Option (List ℕ)) → IsAnswer {I = Item} (get_text k) (text_or_empty o)
+empty-kind : (k : List ℕ) (o : Option (List ℕ)) → IsAnswer {I = Item} (ask.GetText k) (text_or_empty o)
 empty-kind k None = tt
 empty-kind k (Some t) = tt
 
 abbrev SaysWhatComes : Answered Item → Type 0
-SaysWhatComes a = a.reply ≢ nothing → IsAnswer take a.reply
+SaysWhatComes a = a.reply ≢ answer.Nothing → IsAnswer ask.Take a.reply
 
 event-kind : (b : Board Item) (s : ℕ) (d : Desk Item) (es : List Happening) → SaysWhatComes (take_event b s d es)
 event-kind b s d [] n = absurd (n refl)
@@ -219,10 +221,10 @@ look-kind : (b : Board Item) (s : ℕ) (w : World) (ws : List World) → SaysWha
 look-kind b s w [] = other-kind b s w
 look-kind b s w (v ∷ vs) = from-kind b s w v ((b.desks s).link v w) (take_at b s w vs) (look-kind b s w vs)
 
-pub answer-kind : (b : Board Item) (s : ℕ) (w : World) (q : Query Item) → (answer_of b s w q).reply ≢ nothing → IsAnswer q (answer_of b s w q).reply
-answer-kind b s w take n = look-kind b s w site_worlds n
-answer-kind b s w (read k) n = missing-kind k (text_at b.pairs k)
-answer-kind b s w (get_text e) n = empty-kind e (text_at (b.desks s).texts e)
+pub answer-kind : (b : Board Item) (s : ℕ) (w : World) (q : AskOf Item) → (answer_of b s w q).reply ≢ answer.Nothing → IsAnswer q (answer_of b s w q).reply
+answer-kind b s w ask.Take n = look-kind b s w site_worlds n
+answer-kind b s w (ask.Read k) n = missing-kind k (text_at b.pairs k)
+answer-kind b s w (ask.GetText e) n = empty-kind e (text_at (b.desks s).texts e)
 answer-kind b s w _ n = tt
 
 -- more cells of one session

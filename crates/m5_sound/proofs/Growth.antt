@@ -13,7 +13,8 @@ use Rattle.m5_typing.specs.Context.{CellTypes, Context, Setting, nothing, type_a
 use Rattle.m5_typing.specs.Typing.{Typed}
 use Rattle.m5_typing.specs.Laws.{Extends}
 use Rattle.m5_typing.proofs.Weaken.{weaken}
-use Rattle.m5_terms.specs.Asks.{Reply, message}
+use Rattle.m5_terms.specs.declared.ask.AnswerOf.{AnswerOf}
+use Rattle.m5_terms.specs.declared.ask.AnswerOf.TheVariants as answer
 use Rattle.m5_meaning.specs.Site.{Thread, Site, Item, thread, raw}
 use Rattle.m5_sound.specs.Settings.{with_cells, Grows, GrowsAt}
 use Rattle.m5_sound.specs.Threads.{Fits, FramesTyped, FocusTyped, ThreadTyped}
@@ -88,8 +89,8 @@ pub item-grown : (E F : Setting) → Extends E F → (u : World) (i : Item) → 
 item-grown E F m u (thread t) d = thread-grown E F m u t d
 item-grown E F m u (raw bytes) d = d
 
-pub reply-grown : (E F : Setting) → Extends E F → (u : World) (r : Reply Item) → ReplyTyped E u r → ReplyTyped F u r
-reply-grown E F m u (message v i) d = item-grown E F m u i d
+pub reply-grown : (E F : Setting) → Extends E F → (u : World) (r : AnswerOf Item) → ReplyTyped E u r → ReplyTyped F u r
+reply-grown E F m u (answer.Message v i) d = item-grown E F m u i d
 reply-grown E F m u _ d = d
 
 pub items-grown : (E F : Setting) → Extends E F → (u : World) (is : List Item) → Each (ItemTyped E u) is → Each (ItemTyped F u) is

@@ -14,7 +14,10 @@ use Rattle.m5_terms.specs.Primitives.{primitive_world}
 use Rattle.m5_typing.specs.Context.{CellTypes, Setting}
 use Rattle.m5_typing.specs.Program.{IsProgram}
 use Rattle.m5_terms.specs.Machine.{goes, asks, wrong, Comes}
-use Rattle.m5_terms.specs.Asks.{Query, read, send, take, stop, Reply, found, message, nothing}
+use Rattle.m5_terms.specs.declared.ask.AskOf.{AskOf}
+use Rattle.m5_terms.specs.declared.ask.AskOf.TheVariants as ask
+use Rattle.m5_terms.specs.declared.ask.AnswerOf.{AnswerOf}
+use Rattle.m5_terms.specs.declared.ask.AnswerOf.TheVariants as answer
 use Rattle.m5_meaning.specs.Site.{Program, Site, Item, thread, raw}
 use Rattle.m5_meaning.specs.Step.{SiteNext, site_next}
 use Rattle.m5_script.specs.Scenario.{Scenario, IsPair, IsEvent}
@@ -75,20 +78,20 @@ pub record DeedFine (d : Deed Item) : Type 0 where
   pub texts : DeedHasTexts d
   pub world : IsAtItsWorld (primitive_of (shown has_seal d.query d.reply)) d.world
 
-read-world : (k : List ℕ) (r : Reply Item) (u : World) → u ≡ primitive_world primitive.Read → IsAtItsWorld (primitive_of (read_shown k r)) u
-read-world k (found t) u h = h
+read-world : (k : List ℕ) (r : AnswerOf Item) (u : World) → u ≡ primitive_world primitive.Read → IsAtItsWorld (primitive_of (read_shown k r)) u
+read-world k (answer.Found t) u h = h
 read-world k _ u h = h
 
-take-world : (r : Reply Item) (u : World) → IsAtItsWorld (primitive_of (take_shown has_seal r)) u
-take-world (message v (thread t)) u = tt
-take-world (message v (raw bytes)) u = tt
+take-world : (r : AnswerOf Item) (u : World) → IsAtItsWorld (primitive_of (take_shown has_seal r)) u
+take-world (answer.Message v (thread t)) u = tt
+take-world (answer.Message v (raw bytes)) u = tt
 take-world _ u = tt
 
-query-world : (E : Setting) (u : World) (q : Query Item) (r : Reply Item) → QueryTyped E u q → IsAtItsWorld (primitive_of (shown has_seal q r)) u
-query-world E u (read k) r t = read-world k r u t.0
-query-world E u (send v i) r t = tt
-query-world E u take r t = take-world r u
-query-world E u (stop c) r t = tt
+query-world : (E : Setting) (u : World) (q : AskOf Item) (r : AnswerOf Item) → QueryTyped E u q → IsAtItsWorld (primitive_of (shown has_seal q r)) u
+query-world E u (ask.Read k) r t = read-world k r u t.0
+query-world E u (ask.Send v i) r t = tt
+query-world E u ask.Take r t = take-world r u
+query-world E u (ask.Stop c) r t = tt
 query-world E u _ r t = t.0
 
 -- one step of a run
@@ -105,7 +108,7 @@ pub some-inj : (a b : Site) → Some a ≡ Some b → a ≡ b
 some-inj a b e = cc
 
 -- a typed site's next ask, and the board's answer to it
-pub record Asked (P : Program) (T : ℕ → CellTypes) (N : Network) (s : ℕ) (w : World) (q : Query Item) (resume : Reply Item → Option Site) : Type 0 where
+pub record Asked (P : Program) (T : ℕ → CellTypes) (N : Network) (s : ℕ) (w : World) (q : AskOf Item) (resume : AnswerOf Item → Option Site) : Type 0 where
   pub cells : CellTypes
   pub grows : GrowsAt w (T s) cells
   pub query : QueryTyped (setting P cells) w q
@@ -113,7 +116,7 @@ pub record Asked (P : Program) (T : ℕ → CellTypes) (N : Network) (s : ℕ) (
   pub reply : ReplyTyped (setting P cells) w (answer_of N.board s w q).reply
   pub board : BoardTyped P (at_session s cells T) (answer_of N.board s w q).board
 
-pub next-asked : (P : Program) (T : ℕ → CellTypes) (N : Network) (s : ℕ) (w : World) (q : Query Item) (resume : Reply Item → Option Site) → IsProgram P → w ≢ Any → NetworkTyped P T N → NextAsk P w (N.site s w) q resume → Asked P T N s w q resume
+pub next-asked : (P : Program) (T : ℕ → CellTypes) (N : Network) (s : ℕ) (w : World) (q : AskOf Item) (resume : AnswerOf Item → Option Site) → IsProgram P → w ≢ Any → NetworkTyped P T N → NextAsk P w (N.site s w) q resume → Asked P T N s w q resume
 next-asked P T N s w q resume h r t a = record {
   cells = L;
   grows = grows;
@@ -142,12 +145,12 @@ next-asked P T N s w q resume h r t a = record {
     answer = answer-typed P (at_session s L T) N.board s w q r (subst (λ K. QueryTyped (setting P K) w q) (sym same) k.typed.0) (board-grown P T s L N.board grows.0 (board-of P T N t))
 
 -- what the site is by the answer
-pub record Resumed (P : Program) (L : CellTypes) (w : World) (resume : Reply Item → Option Site) (r : Reply Item) : Type 0 where
+pub record Resumed (P : Program) (L : CellTypes) (w : World) (resume : AnswerOf Item → Option Site) (r : AnswerOf Item) : Type 0 where
   pub site : Site
   pub is : resume r ≡ Some site
   pub typed : SiteTyped (setting P L) w site
 
-pub asked-resumed : (P : Program) (T : ℕ → CellTypes) (N : Network) (s : ℕ) (w : World) (q : Query Item) (resume : Reply Item → Option Site) (k : Asked P T N s w q resume) → (answer_of N.board s w q).reply ≢ nothing → Resumed P k.cells w resume (answer_of N.board s w q).reply
+pub asked-resumed : (P : Program) (T : ℕ → CellTypes) (N : Network) (s : ℕ) (w : World) (q : AskOf Item) (resume : AnswerOf Item → Option Site) (k : Asked P T N s w q resume) → (answer_of N.board s w q).reply ≢ answer.Nothing → Resumed P k.cells w resume (answer_of N.board s w q).reply
 asked-resumed P T N s w q resume k told =
     let y = k.answers k.cells (answer_of N.board s w q).reply (grows-self k.cells) refl (answer-kind N.board s w q told) k.reply in
     record { site = y.0; is = y.1; typed = y.2 }

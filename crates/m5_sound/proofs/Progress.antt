@@ -7,7 +7,10 @@ use Rattle.m5_terms.specs.declared.ask.Cause.TheVariants.{Spent}
 use Rattle.m5_typing.specs.Context.{CellTypes}
 use Rattle.m5_typing.specs.Program.{IsProgram}
 use Rattle.m5_terms.specs.Machine.{goes, asks, wrong, Comes}
-use Rattle.m5_terms.specs.Asks.{Query, get_text, read, take, stop, Reply, done, nothing}
+use Rattle.m5_terms.specs.declared.ask.AskOf.{AskOf}
+use Rattle.m5_terms.specs.declared.ask.AskOf.TheVariants as ask
+use Rattle.m5_terms.specs.declared.ask.AnswerOf.{AnswerOf}
+use Rattle.m5_terms.specs.declared.ask.AnswerOf.TheVariants as answer
 use Rattle.m5_meaning.specs.Site.{Program, Thread, Site, Item}
 use Rattle.m5_meaning.specs.Step.{SiteNext, after_take, front, site_next}
 use Rattle.m5_script.specs.Scenario.{Scenario}
@@ -31,13 +34,13 @@ comes-on P w (suc n) s t u c e = (c.0, c.1, comes-on P w n c.0 t u c.2 e)
 
 -- a next ask, with what resumes the site
 pub record SomeAsk (P : Program) (w : World) (from : Site) : Type 0 where
-  pub query : Query Item
-  pub resume : Reply Item → Option Site
+  pub query : AskOf Item
+  pub resume : AnswerOf Item → Option Site
   pub next : NextAsk P w from query resume
 
 -- a site without a thread looks for something new
 threadless : (P : Program) (S : Scenario) (w : World) (from x : Site) (k : ℕ) (ts : List Thread) → Comes (site_next P w) k from x → x.threads ≡ ts → S.steps ≤ x.steps → SomeAsk P w from ⊎ IsLicensed P S w Spent from
-threadless P S w from x k [] c e h = inl (record { query = take; resume = after_take w x; next = record { steps = k; waiting = x; comes = c; asking = ap (front P w x) e } })
+threadless P S w from x k [] c e h = inl (record { query = ask.Take; resume = after_take w x; next = record { steps = k; waiting = x; comes = c; asking = ap (front P w x) e } })
 threadless P S w from x k (t ∷ ts) c e h = inr (record { steps = k; at = x; comes = c; has_thread = λ q. let p : t ∷ ts ≡ [] = sym e ∙ q in cc; reached = h })
 
 -- within n local steps the site comes to an ask, or has made as many steps as it may
@@ -54,22 +57,22 @@ asks-or-spent P S w (suc n) L from x k p r t c h =
 
 -- only a look finds nothing
 
-missing-says : (o : Option (List ℕ)) → text_or_missing {Item = Item} o ≢ nothing
+missing-says : (o : Option (List ℕ)) → text_or_missing {Item = Item} o ≢ answer.Nothing
 missing-says None e = cc
 missing-says (Some t) e = cc
 
-empty-says : (o : Option (List ℕ)) → text_or_empty {Item = Item} o ≢ nothing
+empty-says : (o : Option (List ℕ)) → text_or_empty {Item = Item} o ≢ answer.Nothing
 empty-says None e = cc
 empty-says (Some t) e = cc
 
-looks : (b : Board Item) (s : ℕ) (w : World) (q : Query Item) → (answer_of b s w q).reply ≡ nothing → q ≡ take
-looks b s w take e = refl
-looks b s w (read k) e = absurd (missing-says (text_at b.pairs k) e)
-looks b s w (get_text k) e = absurd (empty-says (text_at (b.desks s).texts k) e)
+looks : (b : Board Item) (s : ℕ) (w : World) (q : AskOf Item) → (answer_of b s w q).reply ≡ answer.Nothing → q ≡ ask.Take
+looks b s w ask.Take e = refl
+looks b s w (ask.Read k) e = absurd (missing-says (text_at b.pairs k) e)
+looks b s w (ask.GetText k) e = absurd (empty-says (text_at (b.desks s).texts k) e)
 looks b s w _ e = cc
 
-is-nothing : (r : Reply Item) → (r ≡ nothing) ⊎ (r ≢ nothing)
-is-nothing nothing = inl refl
+is-nothing : (r : AnswerOf Item) → (r ≡ answer.Nothing) ⊎ (r ≢ answer.Nothing)
+is-nothing answer.Nothing = inl refl
 is-nothing _ = inr (λ e. cc)
 
 abbrev CanHappen : Program → Scenario → Network → ℕ → World → Type 0
@@ -79,13 +82,13 @@ CanHappen P S N s w = IsAtRest P N s w ⊎ ((cause : Option Cause) × (d : Deed 
 ask-happens : (P : Program) (S : Scenario) (T : ℕ → CellTypes) (N : Network) (s : ℕ) (w : World) → IsProgram P → NetworkTyped P T N → IsSite S s w → (N.site s w).stopped ≡ false → SomeAsk P w (N.site s w) → CanHappen P S N s w
 ask-happens P S T N s w p t i f a = by (is-nothing (answer_of N.board s w a.query).reply)
   where
-    by : ((answer_of N.board s w a.query).reply ≡ nothing) ⊎ ((answer_of N.board s w a.query).reply ≢ nothing) → CanHappen P S N s w
+    by : ((answer_of N.board s w a.query).reply ≡ answer.Nothing) ⊎ ((answer_of N.board s w a.query).reply ≢ answer.Nothing) → CanHappen P S N s w
     by (inl quiet) =
-        let q : a.query ≡ take = looks N.board s w a.query quiet in
+        let q : a.query ≡ ask.Take = looks N.board s w a.query quiet in
         inl (record {
           resume = a.resume;
           next = subst (λ q. NextAsk P w (N.site s w) q a.resume) q a.next;
-          nothing_there = subst (λ q. (answer_of N.board s w q).reply ≡ nothing) q quiet;
+          nothing_there = subst (λ q. (answer_of N.board s w q).reply ≡ answer.Nothing) q quiet;
         })
     by (inr told) =
         let y = asked-resumed P T N s w a.query a.resume (next-asked P T N s w a.query a.resume p (is-real w i.world) t a.next) told in
@@ -106,7 +109,7 @@ can-happen P S ps ds N s w p k r i f =
     by T t (inl a) = ask-happens P S T N s w p t i f a
     by T t (inr l) = inr (
       Some Spent,
-      record { session = s; world = w; query = stop Spent; reply = done },
+      record { session = s; world = w; query = ask.Stop Spent; reply = answer.Done },
       with_site s w (record (N.site s w) { stopped = true }) N.board N,
       record { site = i; runs = f; makes = record { licence = l; deed = refl; after = refl } },
     )

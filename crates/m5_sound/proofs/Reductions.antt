@@ -31,7 +31,7 @@ use Rattle.m5_typing.proofs.Mobile.{both-left, both-right, moves}
 use Rattle.m5_typing.proofs.Everywhere.{anywhere, anywhere-one}
 use Rattle.m5_typing.proofs.Substitute.{substitution_law}
 use Rattle.m5_typing.proofs.Declared.{declared_is_typed}
-use Rattle.m5_terms.specs.Asks.{say, set, get_text, on, read, write, watch}
+use Rattle.m5_terms.specs.declared.ask.AskOf.TheVariants as ask
 use Rattle.m5_meaning.specs.Parts.{unary_parts, parts}
 use Rattle.m5_meaning.specs.Reduction.{Reduced, gives, makes_text, goes_on, makes_cell, loads, stores, leaves, says, sets, writes, gets, reads, handles, watches, wrong, unit_value, unit_or, called_extern, called_function, called, first_of, second_of, text_of_number, divided, operated, at_cell, got, unheld, unsham, reduced_unary, reduced_binary, chosen, case_of_sum, case_of_list, reduced_ternary, reduced}
 use Rattle.m5_meaning.specs.Site.{Program}
@@ -51,13 +51,13 @@ Outcome E u A (makes_cell v) = (B : TypeExpression) × (A ≡ cell B) × IsSmall
 Outcome E u A (loads n) = type_at (E.cells u) n ≡ Some A
 Outcome E u A (stores n v) = (B : TypeExpression) × (A ≡ unit) × (type_at (E.cells u) n ≡ Some B) × ValueTyped E u v B
 Outcome E u A (leaves v e) = (v ≢ u) × (v ≢ Any) × IsTrue (mobile A) × Typed E nothing v e A
-Outcome E u A (says t) = (A ≡ unit) × QueryTyped E u (say t)
-Outcome E u A (sets e t) = (A ≡ unit) × QueryTyped E u (set e t)
-Outcome E u A (writes k t) = (A ≡ unit) × QueryTyped E u (write k t)
-Outcome E u A (gets e) = (A ≡ string) × QueryTyped E u (get_text e)
-Outcome E u A (reads k) = (A ≡ unit_or string) × QueryTyped E u (read k)
-Outcome E u A (handles e h) = (A ≡ unit) × ((n : ℕ) → QueryTyped E u (on e n)) × HandlerTyped E u h
-Outcome E u A (watches k h) = (A ≡ unit) × ((n : ℕ) → QueryTyped E u (watch k n)) × HandlerTyped E u h
+Outcome E u A (says t) = (A ≡ unit) × QueryTyped E u (ask.Say t)
+Outcome E u A (sets e t) = (A ≡ unit) × QueryTyped E u (ask.Set e t)
+Outcome E u A (writes k t) = (A ≡ unit) × QueryTyped E u (ask.Write k t)
+Outcome E u A (gets e) = (A ≡ string) × QueryTyped E u (ask.GetText e)
+Outcome E u A (reads k) = (A ≡ unit_or string) × QueryTyped E u (ask.Read k)
+Outcome E u A (handles e h) = (A ≡ unit) × ((n : ℕ) → QueryTyped E u (ask.On e n)) × HandlerTyped E u h
+Outcome E u A (watches k h) = (A ≡ unit) × ((n : ℕ) → QueryTyped E u (ask.Watch k n)) × HandlerTyped E u h
 Outcome E u A wrong = ⊥
 
 -- the program's functions are those that are known

@@ -8,7 +8,10 @@ use Rattle.m5_terms.specs.declared.thread.Frame.{Frame}
 use Rattle.m5_terms.specs.declared.thread.Frame.TheVariants.{Part, Return}
 use Rattle.m5_terms.specs.declared.thread.Focus.{Focus}
 use Rattle.m5_terms.specs.declared.thread.Focus.TheVariants.{Eval, Returned}
-use Rattle.m5_terms.specs.Asks.{Query, say, set, get_text, on, read, write, watch, send, take, stop, Reply, message}
+use Rattle.m5_terms.specs.declared.ask.AskOf.{AskOf}
+use Rattle.m5_terms.specs.declared.ask.AskOf.TheVariants as ask
+use Rattle.m5_terms.specs.declared.ask.AnswerOf.{AnswerOf}
+use Rattle.m5_terms.specs.declared.ask.AnswerOf.TheVariants as answer
 use Rattle.m5_meaning.specs.Site.{Thread, Site, Item, thread, raw}
 use Rattle.m5_typing.specs.Context.{Setting, nothing}
 use Rattle.m5_sound.specs.Threads.{FramesTyped, FocusTyped, ThreadTyped}
@@ -49,18 +52,18 @@ item-texts E u (raw bytes) d = tt
 pub items-texts : (E : Setting) (u : World) (is : List Item) → Each (ItemTyped E u) is → Each ItemHasTexts is
 items-texts E u is d = each-map (ItemTyped E u) ItemHasTexts (item-texts E u) is d
 
-pub query-texts : (E : Setting) (u : World) (q : Query Item) → QueryTyped E u q → QueryHasTexts q
-query-texts E u (send v i) t = item-texts E v i t.2
-query-texts E u (say x) t = t.1
-query-texts E u (set e x) t = (t.1, t.2)
-query-texts E u (get_text e) t = t.1
-query-texts E u (on e n) t = t.1
-query-texts E u (read k) t = t.1
-query-texts E u (write k x) t = (t.1, t.2)
-query-texts E u (watch k n) t = t.1
-query-texts E u take t = t
-query-texts E u (stop c) t = t
+pub query-texts : (E : Setting) (u : World) (q : AskOf Item) → QueryTyped E u q → QueryHasTexts q
+query-texts E u (ask.Send v i) t = item-texts E v i t.2
+query-texts E u (ask.Say x) t = t.1
+query-texts E u (ask.Set e x) t = (t.1, t.2)
+query-texts E u (ask.GetText e) t = t.1
+query-texts E u (ask.On e n) t = t.1
+query-texts E u (ask.Read k) t = t.1
+query-texts E u (ask.Write k x) t = (t.1, t.2)
+query-texts E u (ask.Watch k n) t = t.1
+query-texts E u ask.Take t = t
+query-texts E u (ask.Stop c) t = t
 
-pub reply-texts : (E : Setting) (u : World) (r : Reply Item) → ReplyTyped E u r → ReplyHasTexts r
-reply-texts E u (message v i) t = item-texts E u i t
+pub reply-texts : (E : Setting) (u : World) (r : AnswerOf Item) → ReplyTyped E u r → ReplyHasTexts r
+reply-texts E u (answer.Message v i) t = item-texts E u i t
 reply-texts E u _ t = t

@@ -15,7 +15,8 @@ use Rattle.m5_terms.specs.declared.thread.Frame.TheVariants.{Part, Return}
 use Rattle.m5_terms.specs.declared.thread.Focus.{Focus}
 use Rattle.m5_terms.specs.declared.thread.Focus.TheVariants.{Eval, Returned}
 use Rattle.m5_terms.specs.Machine.{goes, asks}
-use Rattle.m5_terms.specs.Asks.{Query, say, set, on, write, watch, send, take}
+use Rattle.m5_terms.specs.declared.ask.AskOf.{AskOf}
+use Rattle.m5_terms.specs.declared.ask.AskOf.TheVariants as ask
 use Rattle.m5_meaning.specs.Site.{Program, Thread, Site, Item, thread}
 use Rattle.m5_typing.specs.Value.{IsValue}
 use Rattle.m5_typing.specs.Context.{CellTypes, Setting, nothing, type_at}
@@ -61,7 +62,7 @@ unit-led : (P : Program) (E : Setting) (u : World) (s : Site) (ts : List Thread)
 unit-led P E u s ts fs A e t f =
     led E u s fs (Returned u unit_value) ts (refl, record { of = unit; stands = inl refl; typed = (refl, omega arith); frames = subst (λ B. FramesTyped E u fs u B) e f }) (rest-of P E u s ts t)
 
-tells-typed : (P : Program) (E : Setting) (u : World) (s : Site) (ts : List Thread) (fs : List Frame) (q : Query Item) (A : TypeExpression) → IsTold q → QueryTyped E u q → A ≡ unit → Turn P E u s ts → FramesTyped E u fs u A → NextTyped E u (asks q (after_done P s (thread_of fs (Returned u unit_value) ∷ ts)))
+tells-typed : (P : Program) (E : Setting) (u : World) (s : Site) (ts : List Thread) (fs : List Frame) (q : AskOf Item) (A : TypeExpression) → IsTold q → QueryTyped E u q → A ≡ unit → Turn P E u s ts → FramesTyped E u fs u A → NextTyped E u (asks q (after_done P s (thread_of fs (Returned u unit_value) ∷ ts)))
 tells-typed P E u s ts fs q A o a e t f = asks-typed E u _ _ a (done-typed P E u q s (thread_of fs (Returned u unit_value) ∷ ts) o (unit-led P E u s ts fs A e t f))
 
 -- after a reduction
@@ -107,7 +108,7 @@ stores-typed P E u s ts fs n v A t o f =
     let d = unit-led P E u s ts fs A o.1 t f in
     subst (λ x. NextTyped E u (stored P s ts fs u n v x)) (sym old.1) (at-once E u _ (d.0, cell-set E u s.cells (E.cells u) n o.0 v t.site.1 o.2 o.3, d.2))
 
-handler-added : (P : Program) (E : Setting) (u : World) (s : Site) (ts : List Thread) (fs : List Frame) (q : ℕ → Query Item) (h : Expression) (A : TypeExpression) → IsTold (q (length s.handlers)) → QueryTyped E u (q (length s.handlers)) → A ≡ unit → HandlerTyped E u h → Turn P E u s ts → FramesTyped E u fs u A → NextTyped E u (adds_handler P s ts fs u q h)
+handler-added : (P : Program) (E : Setting) (u : World) (s : Site) (ts : List Thread) (fs : List Frame) (q : ℕ → AskOf Item) (h : Expression) (A : TypeExpression) → IsTold (q (length s.handlers)) → QueryTyped E u (q (length s.handlers)) → A ≡ unit → HandlerTyped E u h → Turn P E u s ts → FramesTyped E u fs u A → NextTyped E u (adds_handler P s ts fs u q h)
 handler-added P E u s ts fs q h A o a e c t f =
     let d = unit-led P E u s ts fs A e t f in
     unless-full E u s _ (is_full s.handlers) t.site
@@ -126,14 +127,14 @@ outcome-typed P E u s ts fs (stores k v) A t o f = stores-typed P E u s ts fs k 
 outcome-typed P E u s ts fs (leaves v e) A t o f =
     asks-typed E u _ _
     (o.0, o.1, record { of = A; stands = inl refl; typed = o.3; frames = record { here = refl; away = λ q. o.0 (sym q); real = t.real; mobile = o.2; rest = f } })
-    (done-typed P E u (send v (thread (thread_of (Return u ∷ fs) (Eval v e)))) s ts tt (rest-of P E u s ts t))
-outcome-typed P E u s ts fs (says x) A t o f = tells-typed P E u s ts fs (say x) A tt o.1 o.0 t f
-outcome-typed P E u s ts fs (sets e x) A t o f = tells-typed P E u s ts fs (set e x) A tt o.1 o.0 t f
-outcome-typed P E u s ts fs (writes k x) A t o f = tells-typed P E u s ts fs (write k x) A tt o.1 o.0 t f
+    (done-typed P E u (ask.Send v (thread (thread_of (Return u ∷ fs) (Eval v e)))) s ts tt (rest-of P E u s ts t))
+outcome-typed P E u s ts fs (says x) A t o f = tells-typed P E u s ts fs (ask.Say x) A tt o.1 o.0 t f
+outcome-typed P E u s ts fs (sets e x) A t o f = tells-typed P E u s ts fs (ask.Set e x) A tt o.1 o.0 t f
+outcome-typed P E u s ts fs (writes k x) A t o f = tells-typed P E u s ts fs (ask.Write k x) A tt o.1 o.0 t f
 outcome-typed P E u s ts fs (gets e) A t o f = asks-typed E u _ _ o.1 (get-text-typed P E u s ts fs e (subst (λ B. FramesTyped E u fs u B) o.0 f) (rest-of P E u s ts t))
 outcome-typed P E u s ts fs (reads k) A t o f = asks-typed E u _ _ o.1 (read-typed P E u s ts fs k (subst (λ B. FramesTyped E u fs u B) o.0 f) (rest-of P E u s ts t))
-outcome-typed P E u s ts fs (handles e h) A t o f = handler-added P E u s ts fs (on e) h A tt (o.1 (length s.handlers)) o.0 o.2 t f
-outcome-typed P E u s ts fs (watches k h) A t o f = handler-added P E u s ts fs (watch k) h A tt (o.1 (length s.handlers)) o.0 o.2 t f
+outcome-typed P E u s ts fs (handles e h) A t o f = handler-added P E u s ts fs (ask.On e) h A tt (o.1 (length s.handlers)) o.0 o.2 t f
+outcome-typed P E u s ts fs (watches k h) A t o f = handler-added P E u s ts fs (ask.Watch k) h A tt (o.1 (length s.handlers)) o.0 o.2 t f
 outcome-typed P E u s ts fs wrong A t o f = absurd o
 
 -- a hole is filled
@@ -208,7 +209,7 @@ returned-typed P E u w s ts (Part x e k ∷ fs) v A t p d f =
 returned-typed P E u w s ts (Return x ∷ fs) v A t p d f =
     asks-typed E u _ _
     (f.away, f.real, (p, record { of = A; stands = inl refl; typed = moves E v w x A p f.mobile d; frames = f.rest }))
-    (done-typed P E u (send x (thread (thread_of fs (Returned x v)))) s ts tt (rest-of P E u s ts t))
+    (done-typed P E u (ask.Send x (thread (thread_of fs (Returned x v)))) s ts tt (rest-of P E u s ts t))
 
 -- a node in focus
 
@@ -266,7 +267,7 @@ focused-typed P E u s ts fs (Returned w v) t d = returned-typed P E u w s ts fs 
 
 -- the site's first thread is in front, or none
 front-typed : (P : Program) (E : Setting) (u : World) (s : Site) (ts : List Thread) → Declares E P → u ≢ Any → SiteTyped E u s → Each (ThreadTyped E u) ts → NextTyped E u (front P u s ts)
-front-typed P E u s [] y n t r = asks-typed E u take _ tt (taken-typed E u s t)
+front-typed P E u s [] y n t r = asks-typed E u ask.Take _ tt (taken-typed E u s t)
 front-typed P E u s (x ∷ ts) y n t r = focused-typed P E u s ts x.frames x.focus (record { declares = y; real = n; site = t; others = r.1 }) r.0
 
 pub next-typed : (P : Program) (E : Setting) (u : World) (s : Site) → Declares E P → u ≢ Any → SiteTyped E u s → NextTyped E u (site_next P u s)

@@ -12,7 +12,10 @@ use Rattle.m5_typing.specs.Value.{IsValue}
 use Rattle.m5_typing.specs.Context.{CellTypes, Setting, nothing}
 use Rattle.m5_typing.specs.Typing.{Typed}
 use Rattle.m5_terms.specs.Machine.{goes, asks, wrong}
-use Rattle.m5_terms.specs.Asks.{Query, say, set, get_text, on, read, write, watch, send, take, stop, Reply, done, found, missing, message, fired, event}
+use Rattle.m5_terms.specs.declared.ask.AskOf.{AskOf}
+use Rattle.m5_terms.specs.declared.ask.AskOf.TheVariants as ask
+use Rattle.m5_terms.specs.declared.ask.AnswerOf.{AnswerOf}
+use Rattle.m5_terms.specs.declared.ask.AnswerOf.TheVariants as answer
 use Rattle.m5_meaning.specs.Site.{Site, Item, thread, raw}
 use Rattle.m5_meaning.specs.Step.{SiteNext}
 use Rattle.m5_sound.specs.Settings.{with_cells, Grows, GrowsAt}
@@ -40,42 +43,42 @@ ItemTyped E u (thread t) = ThreadTyped E u t
 ItemTyped E u (raw bytes) = Unit {0}
 
 -- a primitive is called at its own world; a thread is sent to another site, where it is typed
-abbrev pub QueryTyped : Setting → World → Query Item → Type 0
-QueryTyped E u (say t) = (u ≡ primitive_world primitive.Say) × IsText t
-QueryTyped E u (set e t) = (u ≡ primitive_world primitive.SetText) × IsText e × IsText t
-QueryTyped E u (get_text e) = (u ≡ primitive_world primitive.GetText) × IsText e
-QueryTyped E u (on e n) = (u ≡ primitive_world primitive.On) × IsText e
-QueryTyped E u (read k) = (u ≡ primitive_world primitive.Read) × IsText k
-QueryTyped E u (write k t) = (u ≡ primitive_world primitive.Write) × IsText k × IsText t
-QueryTyped E u (watch k n) = (u ≡ primitive_world primitive.Watch) × IsText k
-QueryTyped E u (send v i) = (v ≢ u) × (v ≢ Any) × ItemTyped E v i
-QueryTyped E u take = Unit {0}
-QueryTyped E u (stop c) = Unit {0}
+abbrev pub QueryTyped : Setting → World → AskOf Item → Type 0
+QueryTyped E u (ask.Say t) = (u ≡ primitive_world primitive.Say) × IsText t
+QueryTyped E u (ask.Set e t) = (u ≡ primitive_world primitive.SetText) × IsText e × IsText t
+QueryTyped E u (ask.GetText e) = (u ≡ primitive_world primitive.GetText) × IsText e
+QueryTyped E u (ask.On e n) = (u ≡ primitive_world primitive.On) × IsText e
+QueryTyped E u (ask.Read k) = (u ≡ primitive_world primitive.Read) × IsText k
+QueryTyped E u (ask.Write k t) = (u ≡ primitive_world primitive.Write) × IsText k × IsText t
+QueryTyped E u (ask.Watch k n) = (u ≡ primitive_world primitive.Watch) × IsText k
+QueryTyped E u (ask.Send v i) = (v ≢ u) × (v ≢ Any) × ItemTyped E v i
+QueryTyped E u ask.Take = Unit {0}
+QueryTyped E u (ask.Stop c) = Unit {0}
 
-abbrev pub ReplyTyped : Setting → World → Reply Item → Type 0
-ReplyTyped E u (found t) = IsText t
-ReplyTyped E u (message v i) = ItemTyped E u i
-ReplyTyped E u (fired k n t) = IsText k × IsText t
-ReplyTyped E u (event e ns t) = IsText e × IsText t
+abbrev pub ReplyTyped : Setting → World → AnswerOf Item → Type 0
+ReplyTyped E u (answer.Found t) = IsText t
+ReplyTyped E u (answer.Message v i) = ItemTyped E u i
+ReplyTyped E u (answer.Fired k n t) = IsText k × IsText t
+ReplyTyped E u (answer.Event e ns t) = IsText e × IsText t
 ReplyTyped E u _ = Unit {0}
 
 -- the kinds of answers that an ask may get
-abbrev pub IsAnswer : {I : Type 0} → Query I → Reply I → Type 0
-IsAnswer take (message v i) = Unit {0}
-IsAnswer take (fired k n t) = Unit {0}
-IsAnswer take (event e ns t) = Unit {0}
-IsAnswer take _ = ⊥
-IsAnswer (read k) (found t) = Unit {0}
-IsAnswer (read k) missing = Unit {0}
-IsAnswer (read k) _ = ⊥
-IsAnswer (get_text e) (found t) = Unit {0}
-IsAnswer (get_text e) _ = ⊥
-IsAnswer _ done = Unit {0}
+abbrev pub IsAnswer : {I : Type 0} → AskOf I → AnswerOf I → Type 0
+IsAnswer ask.Take (answer.Message v i) = Unit {0}
+IsAnswer ask.Take (answer.Fired k n t) = Unit {0}
+IsAnswer ask.Take (answer.Event e ns t) = Unit {0}
+IsAnswer ask.Take _ = ⊥
+IsAnswer (ask.Read k) (answer.Found t) = Unit {0}
+IsAnswer (ask.Read k) answer.Missing = Unit {0}
+IsAnswer (ask.Read k) _ = ⊥
+IsAnswer (ask.GetText e) (answer.Found t) = Unit {0}
+IsAnswer (ask.GetText e) _ = ⊥
+IsAnswer _ answer.Done = Unit {0}
 IsAnswer _ _ = ⊥
 
 -- each such answer that is typed makes a typed site of the one that asks, also when other sites have made cells meanwhile
-abbrev pub AnswersTyped : Setting → World → Query Item → (Reply Item → Option Site) → Type 0
-AnswersTyped E u q resume = (M : CellTypes) (r : Reply Item) → Grows E.cells M → M u ≡ E.cells u → IsAnswer q r → ReplyTyped (with_cells M E) u r →
+abbrev pub AnswersTyped : Setting → World → AskOf Item → (AnswerOf Item → Option Site) → Type 0
+AnswersTyped E u q resume = (M : CellTypes) (r : AnswerOf Item) → Grows E.cells M → M u ≡ E.cells u → IsAnswer q r → ReplyTyped (with_cells M E) u r →
     (x : Site) × (resume r ≡ Some x) × SiteTyped (with_cells M E) u x
 
 -- a step to a typed site or a typed ask, and never wrong

@@ -4,25 +4,27 @@ use Rattle.std.specs.List.{AllByRecursion as Each}
 use Rattle.m5_terms.specs.declared.types.World.{World}
 use Rattle.m5_typing.specs.Context.{CellTypes}
 use Rattle.m5_terms.specs.Machine.{asks, Machine}
-use Rattle.m5_terms.specs.Asks.{Query, Reply, fired, event}
+use Rattle.m5_terms.specs.declared.ask.AskOf.{AskOf}
+use Rattle.m5_terms.specs.declared.ask.AnswerOf.{AnswerOf}
+use Rattle.m5_terms.specs.declared.ask.AnswerOf.TheVariants as answer
 use Rattle.m5_meaning.specs.Site.{Program, Site, Item}
 use Rattle.m5_meaning.specs.Step.{SiteNext, site_next}
 use Rattle.m5_sound.specs.Settings.{setting}
 use Rattle.m5_sound.specs.Sites.{SiteTyped, ReplyTyped, IsAnswer}
 
 -- an answer comes only where the site asks, and is of a kind that the ask may get
-abbrev pub IsAnswerTo : SiteNext → Reply Item → Type 0
+abbrev pub IsAnswerTo : SiteNext → AnswerOf Item → Type 0
 IsAnswerTo (asks q resume) r = IsAnswer q r
 IsAnswerTo _ r = ⊥
 
 -- of so many handlers, a trigger names one, and an event names any of them, none twice
-abbrev pub NamesHandlers : ℕ → Reply Item → Type 0
-NamesHandlers n (fired k i t) = i < n
-NamesHandlers n (event e is t) = Each (λ i. i < n) is × AllPairs (λ i j. i ≢ j) is
+abbrev pub NamesHandlers : ℕ → AnswerOf Item → Type 0
+NamesHandlers n (answer.Fired k i t) = i < n
+NamesHandlers n (answer.Event e is t) = Each (λ i. i < n) is × AllPairs (λ i j. i ≢ j) is
 NamesHandlers n _ = Unit {0}
 
 -- which answers may come: site and answer are typed by the same types of cells, so that a thread that comes may use the cells
-pub record IsLawful (P : Program) (w : World) (s : Site) (r : Reply Item) : Type 0 where
+pub record IsLawful (P : Program) (w : World) (s : Site) (r : AnswerOf Item) : Type 0 where
   pub cells : CellTypes
   pub site : SiteTyped (setting P cells) w s
   pub typed : ReplyTyped (setting P cells) w r
@@ -33,8 +35,8 @@ pub record IsLawful (P : Program) (w : World) (s : Site) (r : Reply Item) : Type
 abbrev pub source_machine : Program → World → Machine
 source_machine P w = record {
   State = Site;
-  Ask = Query Item;
-  Answer = Reply Item;
+  Ask = AskOf Item;
+  Answer = AnswerOf Item;
   next = site_next P w;
   lawful = IsLawful P w;
   count = λ s. s.steps;

@@ -12,7 +12,10 @@ use Rattle.m5_terms.specs.declared.thread.Focus.{Focus}
 use Rattle.m5_terms.specs.declared.thread.Focus.TheVariants.{Eval, Returned}
 use Rattle.m5_terms.specs.declared.ask.Act.{Act}
 use Rattle.m5_terms.specs.declared.ask.Act.TheVariants as act
-use Rattle.m5_terms.specs.Asks.{Query, say, set, get_text, on, read, write, watch, send, Reply, found, message, fired, event}
+use Rattle.m5_terms.specs.declared.ask.AskOf.{AskOf}
+use Rattle.m5_terms.specs.declared.ask.AskOf.TheVariants as ask
+use Rattle.m5_terms.specs.declared.ask.AnswerOf.{AnswerOf}
+use Rattle.m5_terms.specs.declared.ask.AnswerOf.TheVariants as answer
 use Rattle.m5_meaning.specs.Site.{Thread, Site, Item, thread, raw}
 use Rattle.m5_script.specs.Scenario.{IsPair}
 use Rattle.m5_network.specs.Board.{Watch, Trigger, Happening, Handling, Desk, Board}
@@ -50,22 +53,22 @@ abbrev pub ItemHasTexts : Item → Type 0
 ItemHasTexts (thread t) = ThreadHasTexts t
 ItemHasTexts (raw bytes) = Unit {0}
 
-abbrev pub QueryHasTexts : Query Item → Type 0
-QueryHasTexts (say t) = IsText t
-QueryHasTexts (set e t) = IsText e × IsText t
-QueryHasTexts (get_text e) = IsText e
-QueryHasTexts (on e n) = IsText e
-QueryHasTexts (read k) = IsText k
-QueryHasTexts (write k t) = IsText k × IsText t
-QueryHasTexts (watch k n) = IsText k
-QueryHasTexts (send v i) = ItemHasTexts i
+abbrev pub QueryHasTexts : AskOf Item → Type 0
+QueryHasTexts (ask.Say t) = IsText t
+QueryHasTexts (ask.Set e t) = IsText e × IsText t
+QueryHasTexts (ask.GetText e) = IsText e
+QueryHasTexts (ask.On e n) = IsText e
+QueryHasTexts (ask.Read k) = IsText k
+QueryHasTexts (ask.Write k t) = IsText k × IsText t
+QueryHasTexts (ask.Watch k n) = IsText k
+QueryHasTexts (ask.Send v i) = ItemHasTexts i
 QueryHasTexts _ = Unit {0}
 
-abbrev pub ReplyHasTexts : Reply Item → Type 0
-ReplyHasTexts (found t) = IsText t
-ReplyHasTexts (message v i) = ItemHasTexts i
-ReplyHasTexts (fired k n t) = IsText k × IsText t
-ReplyHasTexts (event e ns t) = IsText e × IsText t
+abbrev pub ReplyHasTexts : AnswerOf Item → Type 0
+ReplyHasTexts (answer.Found t) = IsText t
+ReplyHasTexts (answer.Message v i) = ItemHasTexts i
+ReplyHasTexts (answer.Fired k n t) = IsText k × IsText t
+ReplyHasTexts (answer.Event e ns t) = IsText e × IsText t
 ReplyHasTexts _ = Unit {0}
 
 pub record DeedHasTexts (d : Deed Item) : Type 0 where

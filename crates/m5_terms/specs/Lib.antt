@@ -14,7 +14,6 @@ pub mod Lends
 pub mod PerWorldLaws
 pub mod Seal
 pub mod Text
-pub mod Asks
 pub mod Machine
 pub mod Keeping
 pub mod Diagram
