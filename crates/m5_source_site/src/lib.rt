@@ -10,7 +10,6 @@ mod operate;
 mod outcome;
 mod parts;
 pub mod query;
-pub mod queue;
 mod reduce;
 mod reduced;
 pub mod resume;

@@ -14,6 +14,7 @@ pub mod opened;
 pub mod per_world;
 pub mod primitives;
 pub mod quoted;
+pub mod queue;
 pub mod seal;
 pub mod size;
 pub mod substitute;

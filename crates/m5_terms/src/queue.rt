@@ -1,6 +1,7 @@
 //! A list that grows at both its ends.
 
-ghost use Rattle.std.specs.Prelude.{◌≡◌, [], ◌∷◌, ◌++◌, ◌<◌, length, slice_get, OnOk, MatchOption};
+ghost use Rattle.std.specs.Option.{option_map};
+ghost use Rattle.std.specs.Prelude.{◌≡◌, [], ◌∷◌, ◌++◌, ◌<◌, length, slice_get, OnOk, OnErr, MatchOption};
 
 use std::alloc::{AllocError, Global};
 use std::collections::VecDeque;
@@ -48,26 +49,42 @@ impl<T> Queue<T> {
         &self.held[index as usize]
     }
 
+    /// The first item, if there is one.
+    pub fn front(&self) -> Option<&T>
+        ensures { option_map (λ x. x.now) result ≡ slice_get self.now 0 }
+    {
+        self.held.front()
+    }
+
     /// Takes the first item off.
     pub fn pop_front(&mut self) -> Option<T>
         ensures { MatchOption result ((self.old ≡ []) × (self.new ≡ [])) (λ item. self.old ≡ item ∷ self.new) }
     {
         self.held.pop_front()
     }
+
+    /// Takes the last item off.
+    pub fn pop_back(&mut self) -> Option<T>
+        ensures { MatchOption result ((self.old ≡ []) × (self.new ≡ [])) (λ item. self.old ≡ self.new ++ item ∷ []) }
+    {
+        self.held.pop_back()
+    }
 }
 
 impl<T: Drop> Queue<T> {
-    /// Adds an item before the others.
+    /// Adds an item before the others. Where memory is wanting, the list stays as it was.
     pub fn push_front(&mut self, item: T) -> Result<(), AllocError>
-        ensures { OnOk result (self.new ≡ item ∷ self.old) }
+        ensures ok { OnOk result (self.new ≡ item ∷ self.old) }
+        ensures err { OnErr result (self.new ≡ self.old) }
     {
         self.held.push_front(item)?;
         Ok(())
     }
 
-    /// Adds an item after the others.
+    /// Adds an item after the others. Where memory is wanting, the list stays as it was.
     pub fn push_back(&mut self, item: T) -> Result<(), AllocError>
-        ensures { OnOk result (self.new ≡ self.old ++ item ∷ []) }
+        ensures ok { OnOk result (self.new ≡ self.old ++ item ∷ []) }
+        ensures err { OnErr result (self.new ≡ self.old) }
     {
         self.held.push_back(item)?;
         Ok(())
