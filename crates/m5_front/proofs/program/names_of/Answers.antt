@@ -3,7 +3,7 @@ use Rattle.m5_tree.specs.declared.tree.Tree.{Tree}
 use Rattle.m5_scope.specs.Resolving.{found}
 use Rattle.m5_scope.specs.Program.{tree_resolved}
 use Rattle.m5_front.proofs.Accepting.{one_answer, resolved_accepts}
-use Rattle.m5_front.proofs.program.read_names.Goals as goal
+use Rattle.m5_front.proofs.program.names_of.Goals as goal
 
 pub returns-in-Err-clause-accepted : goal.returns-in-Err-clause-accepted
 returns-in-Err-clause-accepted c = λ tree raw h. c.in-Err.ensures.accepted tree h.has_tree
@@ -12,7 +12,7 @@ returns-in-Err-clause-accepted c = λ tree raw h. c.in-Err.ensures.accepted tree
 pub returns-in-Ok-resolve-clause-accepted : goal.returns-in-Ok-resolve-clause-accepted
 returns-in-Ok-resolve-clause-accepted c = λ tree raw h.
     let same : c.in-Ok.tree ≡ tree = c.in-Ok.ensures.accepted tree h.has_tree in
-    (same, one_answer c.args.text.now tree c.in-Ok.tree raw c.in-Ok-resolve.raw same c.in-Ok-resolve.ensures.found h)
+    (same, one_answer c.args.tokens.now tree c.in-Ok.tree raw c.in-Ok-resolve.raw same c.in-Ok-resolve.ensures.found h)
 
 -- the tree is the text's one, and its names have no fault
 pub returns-in-Err-resolve-clause-accepted : goal.returns-in-Err-resolve-clause-accepted
