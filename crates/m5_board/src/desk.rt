@@ -9,9 +9,9 @@ use crate::link::{LinkItem, LinksFrom};
 use crate::pairs::{copy_text, set_text};
 use crate::rows::{HandlingRow, HappeningRow, TriggerRow};
 use m5_script::items::TextPair;
-use m5_source_site::queue::Queue;
 use m5_terms::ask::Numbers;
 use m5_terms::listed::Listed;
+use m5_terms::queue::Queue;
 use m5_terms::text::Text;
 use m5_terms::types::World;
 use std::alloc::{AllocError, Global};
@@ -118,7 +118,7 @@ impl DeskRow {
         }
     }
 
-    /// Takes the first item off the link from home to a world.
+    /// Takes the first item off the link from one world to another.
     pub fn receive(&mut self, from: World, to: World) -> Option<LinkItem>
         requires { from ≢ Any }
         ensures { MatchOption result ((links_to (links_from self.old from) to ≡ []) × (self.new ≡ self.old)) (λ i. (links_to (links_from self.old from) to ≡ i ∷ links_to (links_from self.new from) to) × (self.new ≡ with_links_from from (with_links_to to (links_to (links_from self.new from) to) (links_from self.old from)) self.old)) }

@@ -19,9 +19,8 @@ use crate::synthesis::{of_binary, of_leaf, of_unary};
 use m5_lex::Place;
 use m5_raw::function::Function;
 use m5_raw::node::Node;
-use m5_raw::opened::Opened;
 use m5_terms::form::{BinaryForm, TernaryForm};
-use m5_terms::opened::UnaryView;
+use m5_terms::opened::{Opened, UnaryView};
 use m5_terms::types::{Ty, World};
 use std::alloc::Global;
 

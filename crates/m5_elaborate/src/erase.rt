@@ -8,9 +8,9 @@ ghost use Rattle.m5_elaborate.specs.Erased.{erased, erased_function, erased_func
 
 use m5_raw::function::Function as RawFunction;
 use m5_raw::node::Node as RawNode;
-use m5_raw::opened::Opened;
 use m5_terms::form::BinaryForm;
 use m5_terms::node::{Node, NodeBox};
+use m5_terms::opened::Opened;
 use m5_typing::functions::{Function, Functions};
 use std::alloc::{AllocError, Global};
 

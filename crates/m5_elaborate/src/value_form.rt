@@ -5,9 +5,8 @@ ghost use Rattle.m5_typing.specs.Value.{is_value_form};
 ghost use Rattle.m5_elaborate.specs.Erased.{erased};
 
 use m5_raw::node::Node;
-use m5_raw::opened::Opened;
 use m5_terms::form::BinaryForm;
-use m5_terms::opened::{LeafView, UnaryView};
+use m5_terms::opened::{LeafView, Opened, UnaryView};
 
 /// Whether a term is a value with variables in the place of values: a variable, a literal, a function, or a pair, a sum,
 /// a list or a `sham` of value forms.

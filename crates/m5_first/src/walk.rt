@@ -5,7 +5,8 @@ ghost use Rattle.m5_first.specs.Says.{text_of, number_text, says_of};
 ghost use Rattle.m5_first.specs.Walk.{texts_in, is_say_term, Appended, AppendedSayings, IsText, Walked};
 
 use m5_terms::ask::{Act, End, Entries, Entry, History};
-use m5_terms::node::{Node, Term};
+use m5_terms::node::Node;
+use m5_terms::term::Term;
 use m5_terms::text::Text;
 use m5_terms::types::{Op, Prim, World};
 use m5_typing::program::Program;

@@ -1,7 +1,5 @@
-//! A program text read whole: its tree and its resolved program, or how it is refused.
+//! A program text read whole: its tree, its resolved and its typed program, or how it is refused.
 #![tactic(auto)]
 
 pub mod program;
 pub mod refusal;
-#[cfg(test)]
-mod tests;

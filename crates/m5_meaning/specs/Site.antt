@@ -10,7 +10,8 @@ use Rattle.m5_terms.specs.declared.thread.Focus.{Focus}
 abbrev pub Program : Type 0
 Program = ProgramTerm
 
--- what waits for a value, the top frame first, and what is looked at
+-- what waits for a value and what is looked at; the frames from the top to the bottom, while the
+-- thread of a message has them from the bottom to the top
 pub record Thread : Type 0 where
   pub frames : List Frame
   pub focus : Focus

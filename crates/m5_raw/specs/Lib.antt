@@ -1,5 +1,3 @@
 pub mod Resolved
-pub mod TermMeaning
-pub mod Opened
 pub mod InText
 pub mod RawTerm

@@ -8,6 +8,8 @@ use Rattle.m5_terms.specs.declared.form.LeafForm.{LeafForm}
 use Rattle.m5_terms.specs.declared.form.UnaryForm.{UnaryForm}
 use Rattle.m5_terms.specs.declared.form.BinaryForm.{BinaryForm}
 use Rattle.m5_terms.specs.declared.form.TernaryForm.{TernaryForm}
+use Rattle.m5_terms.specs.declared.taken.Taken.{Taken}
+use Rattle.m5_terms.specs.declared.taken.Taken.TheVariants as of_taken
 use Rattle.m5_terms.specs.contracts.form.LeafForm as leaf_form
 use Rattle.m5_terms.specs.contracts.form.UnaryForm as unary_form
 use Rattle.m5_terms.specs.contracts.form.BinaryForm as binary_form
@@ -32,6 +34,13 @@ place_of (leaf at f) = at
 place_of (unary at f a) = at
 place_of (binary at f a b) = at
 place_of (ternary at f a b c) = at
+
+-- the node of a place, a form and its parts
+abbrev pub resolved_of : Place → Taken Resolved → Resolved
+resolved_of at (of_taken.Leaf f) = leaf at f
+resolved_of at (of_taken.Unary f a) = unary at f a
+resolved_of at (of_taken.Binary f a b) = binary at f a b
+resolved_of at (of_taken.Ternary f a b c) = ternary at f a b c
 
 abbrev code : Resolved → Gv
 code (leaf at f) = gcons (placed.the_row.coded.code at) (gcons (gnum 0) (leaf_form.the_row.coded.code f))

@@ -1,6 +1,7 @@
 -- The term of a node that was opened, and the bound of its parts.
 use Rattle.std.specs.Prelude.{ℕ, ◌<◌}
-use Rattle.m5_terms.specs.Expression.{Expression, leaf, unary, binary, ternary, node_count}
+use Rattle.m5_terms.specs.declared.taken.Taken.{Taken}
+use Rattle.m5_terms.specs.declared.taken.Taken.TheVariants as of_taken
 use Rattle.m5_terms.specs.declared.form.LeafForm.{LeafForm}
 use Rattle.m5_terms.specs.declared.form.LeafForm.TheVariants as leaf_form
 use Rattle.m5_terms.specs.declared.form.UnaryForm.{UnaryForm}
@@ -43,15 +44,16 @@ viewed_unary (unary_view.Inl a) = unary_form.Inl a.now
 viewed_unary (unary_view.Inr a) = unary_form.Inr a.now
 viewed_unary (unary_view.Held w) = unary_form.Held w
 
-abbrev pub opened : Opened → Expression
-opened (of_opened.Leaf f) = leaf (viewed_leaf f)
-opened (of_opened.Unary f a) = unary (viewed_unary f) a.now
-opened (of_opened.Binary f a b) = binary f a.now b.now
-opened (of_opened.Ternary f a b c) = ternary f a.now b.now c.now
+-- the same with its parts in hand
+abbrev pub opened : {P : Type 0} → Opened P → Taken P
+opened (of_opened.Leaf f) = of_taken.Leaf (viewed_leaf f)
+opened (of_opened.Unary f a) = of_taken.Unary (viewed_unary f) a.now
+opened (of_opened.Binary f a b) = of_taken.Binary f a.now b.now
+opened (of_opened.Ternary f a b c) = of_taken.Ternary f a.now b.now c.now
 
--- each part has fewer nodes
-abbrev pub PartsAreSmaller : ℕ → Opened → Type 0
-PartsAreSmaller n (of_opened.Leaf f) = Unit {0}
-PartsAreSmaller n (of_opened.Unary f a) = node_count a.now < n
-PartsAreSmaller n (of_opened.Binary f a b) = (node_count a.now < n) × (node_count b.now < n)
-PartsAreSmaller n (of_opened.Ternary f a b c) = (node_count a.now < n) × (node_count b.now < n) × (node_count c.now < n)
+-- each part is smaller, by a count
+abbrev pub PartsAreSmaller : {P : Type 0} → (P → ℕ) → ℕ → Opened P → Type 0
+PartsAreSmaller count n (of_opened.Leaf f) = Unit {0}
+PartsAreSmaller count n (of_opened.Unary f a) = count a.now < n
+PartsAreSmaller count n (of_opened.Binary f a b) = (count a.now < n) × (count b.now < n)
+PartsAreSmaller count n (of_opened.Ternary f a b c) = (count a.now < n) × (count b.now < n) × (count c.now < n)

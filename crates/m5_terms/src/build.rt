@@ -1,16 +1,19 @@
-//! Nodes made of a form and its parts.
+//! Terms and nodes made of a form and its parts.
 
 ghost use Rattle.std.specs.Prelude.{◌≡◌};
 ghost use Rattle.m5_terms.specs.Expression.{leaf, unary, binary, ternary};
+ghost use Rattle.m5_terms.specs.TermMeaning.{parts};
+ghost use Rattle.m5_terms.specs.declared.taken.Taken.TheVariants as of_taken;
 
 use crate::form::{BinaryForm, LeafForm, TernaryForm, UnaryForm};
-use crate::node::{Node, NodeBox, Term};
+use crate::node::{Node, NodeBox};
+use crate::term::Term;
 
-impl Node {
-    pub fn leaf(form: LeafForm) -> Node
-        ensures { result ≡ leaf form }
+impl<B> Term<B> {
+    pub fn leaf(form: LeafForm) -> Term<B>
+        ensures { parts result ≡ of_taken.Leaf form }
     {
-        let term = match form {
+        match form {
             LeafForm::Var(x) => Term::Var(x),
             LeafForm::Valid(x) => Term::Valid(x),
             LeafForm::Glob(x) => Term::Glob(x),
@@ -23,14 +26,13 @@ impl Node {
             LeafForm::Here => Term::Here,
             LeafForm::Nil(ty) => Term::Nil { ty },
             LeafForm::CellAt(world, cell) => Term::CellAt(world, cell),
-        };
-        Node { term }
+        }
     }
 
-    pub fn unary(form: UnaryForm, first: NodeBox) -> Node
-        ensures { result ≡ unary form first }
+    pub fn unary(form: UnaryForm, first: B) -> Term<B>
+        ensures { parts result ≡ of_taken.Unary form first }
     {
-        let term = match form {
+        match form {
             UnaryForm::Fn(var, ty) => Term::Fn { var, ty, first },
             UnaryForm::Rec(var, other, ty, result) => Term::Rec {
                 var,
@@ -51,14 +53,13 @@ impl Node {
             UnaryForm::Inl(ty) => Term::Inl { ty, first },
             UnaryForm::Inr(ty) => Term::Inr { ty, first },
             UnaryForm::Held(world) => Term::Held(world, first),
-        };
-        Node { term }
+        }
     }
 
-    pub fn binary(form: BinaryForm, first: NodeBox, second: NodeBox) -> Node
-        ensures { result ≡ binary form first second }
+    pub fn binary(form: BinaryForm, first: B, second: B) -> Term<B>
+        ensures { parts result ≡ of_taken.Binary form first second }
     {
-        let term = match form {
+        match form {
             BinaryForm::Call => Term::Call { first, second },
             BinaryForm::Pair => Term::Pair { first, second },
             BinaryForm::Cons => Term::Cons { first, second },
@@ -70,14 +71,13 @@ impl Node {
             BinaryForm::Put(var) => Term::Put { var, first, second },
             BinaryForm::Leta(var) => Term::Leta { var, first, second },
             BinaryForm::Lets(var) => Term::Lets { var, first, second },
-        };
-        Node { term }
+        }
     }
 
-    pub fn ternary(form: TernaryForm, first: NodeBox, second: NodeBox, third: NodeBox) -> Node
-        ensures { result ≡ ternary form first second third }
+    pub fn ternary(form: TernaryForm, first: B, second: B, third: B) -> Term<B>
+        ensures { parts result ≡ of_taken.Ternary form first second third }
     {
-        let term = match form {
+        match form {
             TernaryForm::If => Term::If {
                 first,
                 second,
@@ -97,7 +97,40 @@ impl Node {
                 other,
                 third,
             },
-        };
-        Node { term }
+        }
+    }
+}
+
+impl Node {
+    pub fn leaf(form: LeafForm) -> Node
+        ensures { result ≡ leaf form }
+    {
+        Node {
+            term: Term::leaf(form),
+        }
+    }
+
+    pub fn unary(form: UnaryForm, first: NodeBox) -> Node
+        ensures { result ≡ unary form first }
+    {
+        Node {
+            term: Term::unary(form, first),
+        }
+    }
+
+    pub fn binary(form: BinaryForm, first: NodeBox, second: NodeBox) -> Node
+        ensures { result ≡ binary form first second }
+    {
+        Node {
+            term: Term::binary(form, first, second),
+        }
+    }
+
+    pub fn ternary(form: TernaryForm, first: NodeBox, second: NodeBox, third: NodeBox) -> Node
+        ensures { result ≡ ternary form first second third }
+    {
+        Node {
+            term: Term::ternary(form, first, second, third),
+        }
     }
 }

@@ -32,7 +32,7 @@ pub trait TwoPasses {
     ghost under: { Reading second third };
 }
 
-/// A pass that owes nothing at any state keeps behaviours.
+/// A pass that meets its diagram at each state keeps behaviours.
 pub fn diagram_keeps_holds<P: Pass>()
     ensures { (t : P.output.State) (s : P.input.State) → P.reading.state t s → Keeps P.input P.output P.reading P.entry t s }
 {}

@@ -1,20 +1,26 @@
-//! What every other crate speaks of: types, terms, threads, and what a site asks and is answered.
+//! What every other crate speaks of: types, terms, threads, asks and answers, machines, and passes that keep behaviours.
 #![tactic(auto)]
 
 pub mod ask;
 pub mod binders;
 pub mod build;
 pub mod copy;
+pub mod decimal;
 pub mod form;
 pub mod keeping;
 pub mod listed;
 pub mod node;
 pub mod opened;
+pub mod per_world;
 pub mod primitives;
+pub mod quoted;
+pub mod queue;
 pub mod seal;
 pub mod size;
 pub mod substitute;
+pub mod table;
 pub mod taken;
+pub mod term;
 #[cfg(test)]
 mod tests;
 pub mod text;

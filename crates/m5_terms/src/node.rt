@@ -3,15 +3,14 @@
 ghost use Rattle.std.specs.Prelude.{◌≡◌, IfOk};
 ghost use Rattle.m5_terms.specs.TermMeaning.{term_meaning};
 
-use crate::text::Text;
-use crate::types::{Op, Prim, Ty, World};
+use crate::term::Term;
 use std::alloc::{AllocError, Global};
 use std::marker::Model;
 
 /// A term. Contracts see it as plain data, an `Expression`.
 #[cycle(node)]
 pub struct Node {
-    pub term: Term,
+    pub term: Term<NodeBox>,
 }
 
 /// Written out, so that a caller lets a node go by one call.
@@ -44,7 +43,7 @@ impl Model for Node {
 
 impl Node {
     /// The term itself, without its node.
-    pub fn into_term(self) -> Term
+    pub fn into_term(self) -> Term<NodeBox>
         ensures { term_meaning result ≡ self }
     {
         let Node { term } = self;
@@ -97,142 +96,4 @@ impl NodeBox {
         let NodeBox { inner } = self;
         Box::into_inner(inner)
     }
-}
-
-/// One variant for each form of a term. `first`, `second` and `third` are its parts in the order
-/// of the text, `var` and `other` what it binds, `ty` and `result` the types written in it.
-/// `Held` and `CellAt` are values of a run that no text has.
-#[cycle(node)]
-#[derive(Drop)]
-pub enum Term {
-    Var(u32),
-    Valid(u32),
-    Glob(u32),
-    Extern(Prim),
-    Unit,
-    Bool(bool),
-    Int(i64),
-    Str(Text),
-    Addr(World),
-    Here,
-    Fn {
-        var: u32,
-        ty: Ty,
-        first: NodeBox,
-    },
-    Rec {
-        var: u32,
-        other: u32,
-        ty: Ty,
-        result: Ty,
-        first: NodeBox,
-    },
-    Fst {
-        first: NodeBox,
-    },
-    Snd {
-        first: NodeBox,
-    },
-    StrOf {
-        first: NodeBox,
-    },
-    Div {
-        first: NodeBox,
-    },
-    NewCell {
-        first: NodeBox,
-    },
-    Load {
-        first: NodeBox,
-    },
-    Hold {
-        first: NodeBox,
-    },
-    Sham {
-        first: NodeBox,
-    },
-    Spawn {
-        first: NodeBox,
-    },
-    Call {
-        first: NodeBox,
-        second: NodeBox,
-    },
-    Pair {
-        first: NodeBox,
-        second: NodeBox,
-    },
-    Cons {
-        first: NodeBox,
-        second: NodeBox,
-    },
-    Store {
-        first: NodeBox,
-        second: NodeBox,
-    },
-    Do {
-        first: NodeBox,
-        second: NodeBox,
-    },
-    Get {
-        first: NodeBox,
-        second: NodeBox,
-    },
-    Binary {
-        op: Op,
-        first: NodeBox,
-        second: NodeBox,
-    },
-    Inl {
-        ty: Ty,
-        first: NodeBox,
-    },
-    Inr {
-        ty: Ty,
-        first: NodeBox,
-    },
-    Nil {
-        ty: Ty,
-    },
-    If {
-        first: NodeBox,
-        second: NodeBox,
-        third: NodeBox,
-    },
-    CaseSum {
-        first: NodeBox,
-        var: u32,
-        second: NodeBox,
-        other: u32,
-        third: NodeBox,
-    },
-    CaseList {
-        first: NodeBox,
-        second: NodeBox,
-        var: u32,
-        other: u32,
-        third: NodeBox,
-    },
-    Val {
-        var: u32,
-        first: NodeBox,
-        second: NodeBox,
-    },
-    Put {
-        var: u32,
-        first: NodeBox,
-        second: NodeBox,
-    },
-    Leta {
-        var: u32,
-        first: NodeBox,
-        second: NodeBox,
-    },
-    Lets {
-        var: u32,
-        first: NodeBox,
-        second: NodeBox,
-    },
-    Held(World, NodeBox),
-    CellAt(World, u32),
 }

@@ -1,11 +1,13 @@
 //! A node seen as a form and its parts, which stay where they are.
 
 ghost use Rattle.std.specs.Prelude.{◌≡◌};
-ghost use Rattle.m5_terms.specs.Expression.{leaf, unary, binary, ternary, node_count};
+ghost use Rattle.m5_terms.specs.Expression.{node_count};
+ghost use Rattle.m5_terms.specs.TermMeaning.{parts, expression_of};
 ghost use Rattle.m5_terms.specs.Opened.{opened, PartsAreSmaller};
 
 use crate::form::{BinaryForm, TernaryForm};
-use crate::node::{Node, Term};
+use crate::node::Node;
+use crate::term::Term;
 use crate::text::Text;
 use crate::types::{Prim, Ty, World};
 
@@ -47,20 +49,19 @@ pub enum UnaryView<'a> {
 
 /// A node's form and its parts, in the order of the text.
 #[derive(Clone, Copy)]
-pub enum Opened<'a> {
+pub enum Opened<'a, P> {
     Leaf(LeafView<'a>),
-    Unary(UnaryView<'a>, &'a Node),
-    Binary(BinaryForm, &'a Node, &'a Node),
-    Ternary(TernaryForm, &'a Node, &'a Node, &'a Node),
+    Unary(UnaryView<'a>, &'a P),
+    Binary(BinaryForm, &'a P, &'a P),
+    Ternary(TernaryForm, &'a P, &'a P, &'a P),
 }
 
-impl Node {
+impl<B> Term<B> {
     /// The form and the parts, without taking memory.
-    pub fn open(&self) -> Opened<'_>
-        ensures value { opened result ≡ self.now }
-        ensures smaller { PartsAreSmaller (node_count self.now) result }
+    pub fn open(&self) -> Opened<'_, B>
+        ensures { opened result ≡ parts self.now }
     {
-        match &self.term {
+        match self {
             Term::Var(x) => Opened::Leaf(LeafView::Var(*x)),
             Term::Valid(x) => Opened::Leaf(LeafView::Valid(*x)),
             Term::Glob(x) => Opened::Leaf(LeafView::Glob(*x)),
@@ -73,106 +74,93 @@ impl Node {
             Term::Here => Opened::Leaf(LeafView::Here),
             Term::Nil { ty } => Opened::Leaf(LeafView::Nil(ty)),
             Term::CellAt(world, cell) => Opened::Leaf(LeafView::CellAt(*world, *cell)),
-            Term::Fn { var, ty, first } => Opened::Unary(UnaryView::Fn(*var, ty), first.get()),
+            Term::Fn { var, ty, first } => Opened::Unary(UnaryView::Fn(*var, ty), first),
             Term::Rec {
                 var,
                 other,
                 ty,
                 result,
                 first,
-            } => Opened::Unary(UnaryView::Rec(*var, *other, ty, result), first.get()),
-            Term::Fst { first } => Opened::Unary(UnaryView::Fst, first.get()),
-            Term::Snd { first } => Opened::Unary(UnaryView::Snd, first.get()),
-            Term::StrOf { first } => Opened::Unary(UnaryView::StrOf, first.get()),
-            Term::Div { first } => Opened::Unary(UnaryView::Div, first.get()),
-            Term::NewCell { first } => Opened::Unary(UnaryView::NewCell, first.get()),
-            Term::Load { first } => Opened::Unary(UnaryView::Load, first.get()),
-            Term::Hold { first } => Opened::Unary(UnaryView::Hold, first.get()),
-            Term::Sham { first } => Opened::Unary(UnaryView::Sham, first.get()),
-            Term::Spawn { first } => Opened::Unary(UnaryView::Spawn, first.get()),
-            Term::Inl { ty, first } => Opened::Unary(UnaryView::Inl(ty), first.get()),
-            Term::Inr { ty, first } => Opened::Unary(UnaryView::Inr(ty), first.get()),
-            Term::Held(world, first) => Opened::Unary(UnaryView::Held(*world), first.get()),
-            Term::Call { first, second } => Opened::Binary(
-                BinaryForm::Call,
-                first.get(),
-                second.get(),
-            ),
-            Term::Pair { first, second } => Opened::Binary(
-                BinaryForm::Pair,
-                first.get(),
-                second.get(),
-            ),
-            Term::Cons { first, second } => Opened::Binary(
-                BinaryForm::Cons,
-                first.get(),
-                second.get(),
-            ),
-            Term::Store { first, second } => Opened::Binary(
-                BinaryForm::Store,
-                first.get(),
-                second.get(),
-            ),
-            Term::Do { first, second } => Opened::Binary(BinaryForm::Do, first.get(), second.get()),
-            Term::Get { first, second } => Opened::Binary(
-                BinaryForm::Get,
-                first.get(),
-                second.get(),
-            ),
+            } => Opened::Unary(UnaryView::Rec(*var, *other, ty, result), first),
+            Term::Fst { first } => Opened::Unary(UnaryView::Fst, first),
+            Term::Snd { first } => Opened::Unary(UnaryView::Snd, first),
+            Term::StrOf { first } => Opened::Unary(UnaryView::StrOf, first),
+            Term::Div { first } => Opened::Unary(UnaryView::Div, first),
+            Term::NewCell { first } => Opened::Unary(UnaryView::NewCell, first),
+            Term::Load { first } => Opened::Unary(UnaryView::Load, first),
+            Term::Hold { first } => Opened::Unary(UnaryView::Hold, first),
+            Term::Sham { first } => Opened::Unary(UnaryView::Sham, first),
+            Term::Spawn { first } => Opened::Unary(UnaryView::Spawn, first),
+            Term::Inl { ty, first } => Opened::Unary(UnaryView::Inl(ty), first),
+            Term::Inr { ty, first } => Opened::Unary(UnaryView::Inr(ty), first),
+            Term::Held(world, first) => Opened::Unary(UnaryView::Held(*world), first),
+            Term::Call { first, second } => Opened::Binary(BinaryForm::Call, first, second),
+            Term::Pair { first, second } => Opened::Binary(BinaryForm::Pair, first, second),
+            Term::Cons { first, second } => Opened::Binary(BinaryForm::Cons, first, second),
+            Term::Store { first, second } => Opened::Binary(BinaryForm::Store, first, second),
+            Term::Do { first, second } => Opened::Binary(BinaryForm::Do, first, second),
+            Term::Get { first, second } => Opened::Binary(BinaryForm::Get, first, second),
             Term::Binary { op, first, second } => Opened::Binary(
                 BinaryForm::Binary(*op),
-                first.get(),
-                second.get(),
+                first,
+                second,
             ),
             Term::Val { var, first, second } => Opened::Binary(
                 BinaryForm::Val(*var),
-                first.get(),
-                second.get(),
+                first,
+                second,
             ),
             Term::Put { var, first, second } => Opened::Binary(
                 BinaryForm::Put(*var),
-                first.get(),
-                second.get(),
+                first,
+                second,
             ),
             Term::Leta { var, first, second } => Opened::Binary(
                 BinaryForm::Leta(*var),
-                first.get(),
-                second.get(),
+                first,
+                second,
             ),
             Term::Lets { var, first, second } => Opened::Binary(
                 BinaryForm::Lets(*var),
-                first.get(),
-                second.get(),
+                first,
+                second,
             ),
             Term::If {
                 first,
                 second,
                 third,
-            } => Opened::Ternary(TernaryForm::If, first.get(), second.get(), third.get()),
+            } => Opened::Ternary(TernaryForm::If, first, second, third),
             Term::CaseSum {
                 first,
                 var,
                 second,
                 other,
                 third,
-            } => Opened::Ternary(
-                TernaryForm::CaseSum(*var, *other),
-                first.get(),
-                second.get(),
-                third.get(),
-            ),
+            } => Opened::Ternary(TernaryForm::CaseSum(*var, *other), first, second, third),
             Term::CaseList {
                 first,
                 second,
                 var,
                 other,
                 third,
-            } => Opened::Ternary(
-                TernaryForm::CaseList(*var, *other),
-                first.get(),
-                second.get(),
-                third.get(),
-            ),
+            } => Opened::Ternary(TernaryForm::CaseList(*var, *other), first, second, third),
+        }
+    }
+}
+
+impl Node {
+    /// The form and the parts, without taking memory.
+    pub fn open(&self) -> Opened<'_, Node>
+        ensures value { expression_of (opened result) ≡ self.now }
+        ensures smaller { PartsAreSmaller node_count (node_count self.now) result }
+    {
+        match self.term.open() {
+            Opened::Leaf(form) => Opened::Leaf(form),
+            Opened::Unary(form, first) => Opened::Unary(form, first.get()),
+            Opened::Binary(form, first, second) => Opened::Binary(form, first.get(), second.get()),
+            Opened::Ternary(form, first, second, third) => {
+                Opened::Ternary(form, first.get(), second.get(), third.get())
+            }
         }
     }
 }

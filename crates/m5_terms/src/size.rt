@@ -33,7 +33,8 @@ fn size_of_node(node: &Node) -> u64
     }
 }
 
-fn size_of_frame(frame: &Frame) -> u64
+/// The frame itself and its nodes, with the bytes of their texts; `u64::MAX` where the sum is larger.
+pub fn size_of_frame(frame: &Frame) -> u64
     ensures { result ≡ min (frame_size frame.now) (2 ^ 64 - 1) }
 {
     match frame {
@@ -42,7 +43,8 @@ fn size_of_frame(frame: &Frame) -> u64
     }
 }
 
-fn size_of_focus(focus: &Focus) -> u64
+/// The nodes of the focus and the bytes of their texts; `u64::MAX` where the sum is larger.
+pub fn size_of_focus(focus: &Focus) -> u64
     ensures { result ≡ min (focus_size focus.now) (2 ^ 64 - 1) }
 {
     match focus {

@@ -1,26 +1,26 @@
 //! A node taken apart into its form and its parts.
 
 ghost use Rattle.std.specs.Prelude.{◌≡◌};
-ghost use Rattle.m5_terms.specs.Expression.{leaf, unary, binary, ternary};
-ghost use Rattle.m5_terms.specs.Taken.{taken};
+ghost use Rattle.m5_terms.specs.TermMeaning.{parts, expression_of};
 
 use crate::form::{BinaryForm, LeafForm, TernaryForm, UnaryForm};
-use crate::node::{Node, NodeBox, Term};
+use crate::node::{Node, NodeBox};
+use crate::term::Term;
 
 /// A node's form and its parts.
 #[derive(Drop)]
-pub enum Taken {
+pub enum Taken<B> {
     Leaf(LeafForm),
-    Unary(UnaryForm, NodeBox),
-    Binary(BinaryForm, NodeBox, NodeBox),
-    Ternary(TernaryForm, NodeBox, NodeBox, NodeBox),
+    Unary(UnaryForm, B),
+    Binary(BinaryForm, B, B),
+    Ternary(TernaryForm, B, B, B),
 }
 
-impl Node {
-    pub fn take(self) -> Taken
-        ensures { taken result ≡ self }
+impl<B> Term<B> {
+    pub fn take(self) -> Taken<B>
+        ensures { result ≡ parts self }
     {
-        match self.into_term() {
+        match self {
             Term::Var(x) => Taken::Leaf(LeafForm::Var(x)),
             Term::Valid(x) => Taken::Leaf(LeafForm::Valid(x)),
             Term::Glob(x) => Taken::Leaf(LeafForm::Glob(x)),
@@ -96,5 +96,13 @@ impl Node {
                 third,
             } => Taken::Ternary(TernaryForm::CaseList(var, other), first, second, third),
         }
+    }
+}
+
+impl Node {
+    pub fn take(self) -> Taken<NodeBox>
+        ensures { expression_of result ≡ self }
+    {
+        self.into_term().take()
     }
 }

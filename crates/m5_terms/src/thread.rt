@@ -22,7 +22,7 @@ pub enum Focus {
     Returned(World, Node),
 }
 
-/// A thread of a site.
+/// A thread of a site, its frames from the bottom to the top: the last one waits for the focus.
 #[derive(Drop)]
 pub struct Thread {
     pub frames: Frames,

@@ -1,15 +1,11 @@
 -- Programs: declared functions and what is evaluated at home.
-use Rattle.std.specs.Prelude.{ℕ, ◌+◌, ◌≤◌, Bool, true, false, ◌&&◌, IsTrue, ℤ, pos, negsuc, Option, Some, None, List, [], ◌∷◌, ◌++◌, slice_get, sum_by, refl}
+use Rattle.std.specs.Prelude.{ℕ, ◌+◌, ◌≤◌, Bool, ◌&&◌, IsTrue, Option, Some, None, List, [], ◌∷◌, ◌++◌, slice_get, sum_by, refl}
 use Rattle.std.specs.List.{list_all}
 use Rattle.m5_terms.specs.Expression.{Expression, leaf, unary, binary, ternary}
 use Rattle.m5_terms.specs.TypeExpression.{TypeExpression, unit, function, type_node_count}
-use Rattle.m5_terms.specs.Text.{text_byte}
+use Rattle.m5_terms.specs.InText.{leaf_type_nodes, unary_type_nodes, leaf_in_text, unary_in_text}
 use Rattle.m5_terms.specs.declared.types.World.{World}
 use Rattle.m5_terms.specs.declared.types.World.TheVariants.{Home, Any}
-use Rattle.m5_terms.specs.declared.form.LeafForm.{LeafForm}
-use Rattle.m5_terms.specs.declared.form.LeafForm.TheVariants as leaf_form
-use Rattle.m5_terms.specs.declared.form.UnaryForm.{UnaryForm}
-use Rattle.m5_terms.specs.declared.form.UnaryForm.TheVariants as unary_form
 use Rattle.std.specs.Coded.{Coded, code_by, coded×, coded_list}
 use Rattle.m5_terms.specs.Expression.{expression_code}
 use Rattle.m5_typing.specs.declared.functions.Function.{Function}
@@ -43,18 +39,6 @@ abbrev pub FunctionsTyped : List Function → List Function → Type 0
 FunctionsTyped known [] = Unit {0}
 FunctionsTyped known (g ∷ rest) = FunctionTyped (known ++ g ∷ []) g × FunctionsTyped (known ++ g ∷ []) rest
 
--- the nodes of the types that are written in a form
-abbrev pub leaf_type_nodes : LeafForm → ℕ
-leaf_type_nodes (leaf_form.Nil A) = type_node_count A
-leaf_type_nodes _ = 0
-
-abbrev pub unary_type_nodes : UnaryForm → ℕ
-unary_type_nodes (unary_form.Fn x A) = type_node_count A
-unary_type_nodes (unary_form.Rec f x A B) = type_node_count A + type_node_count B
-unary_type_nodes (unary_form.Inl T) = type_node_count T
-unary_type_nodes (unary_form.Inr T) = type_node_count T
-unary_type_nodes _ = 0
-
 -- a term's nodes and those of the types written in it
 abbrev pub written_nodes : Expression → ℕ
 written_nodes (leaf f) = 1 + leaf_type_nodes f
@@ -65,21 +49,7 @@ written_nodes (ternary f a b c) = 1 + (written_nodes a + (written_nodes b + writ
 abbrev pub function_nodes : Function → ℕ
 function_nodes g = type_node_count g.ty + (type_node_count g.result + written_nodes g.body)
 
-abbrev pub is_natural : ℤ → Bool
-is_natural (pos n) = true
-is_natural (negsuc n) = false
-
--- forms that a text has: no cell and nothing held, no negative integer, and texts of text bytes
-abbrev pub leaf_in_text : LeafForm → Bool
-leaf_in_text (leaf_form.Int n) = is_natural n
-leaf_in_text (leaf_form.Str s) = list_all text_byte s
-leaf_in_text (leaf_form.CellAt w n) = false
-leaf_in_text _ = true
-
-abbrev pub unary_in_text : UnaryForm → Bool
-unary_in_text (unary_form.Held w) = false
-unary_in_text _ = true
-
+-- each of its forms is one that a text has
 abbrev pub in_text : Expression → Bool
 in_text (leaf f) = leaf_in_text f
 in_text (unary f a) = unary_in_text f && in_text a
