@@ -1,2 +1,4 @@
+pub mod Lists
+pub mod SiteWorlds
 pub mod Diagrams
 pub mod Passes

@@ -1,7 +1,8 @@
 -- Tests of worlds, and the worlds that have sites.
-use Rattle.std.proofs.Common.{◌≡◌, ◌≢◌, zero, suc, Bool, true, false, refl, ◌∙◌, arith}
+use Rattle.std.proofs.Common.{◌≡◌, ◌≢◌, zero, suc, Bool, true, false, List, [], ◌∷◌, refl, ◌∙◌, arith}
+use Rattle.std.specs.List.{AllByRecursion as Each}
 use Rattle.m5_terms.specs.TypeExpression.{same_world}
-use Rattle.m5_terms.specs.Worlds.{IsSiteWorld}
+use Rattle.m5_terms.specs.Worlds.{site_worlds, IsSiteWorld}
 use Rattle.m5_terms.specs.declared.types.World.{World}
 use Rattle.m5_terms.specs.declared.types.World.TheVariants.{Home, Server, Any}
 
@@ -35,3 +36,19 @@ pub is-real : (w : World) → IsSiteWorld w → w ≢ Any
 is-real w (zero, h, e) = λ q. let p : Home ≡ Any = e ∙ q in cc
 is-real w (suc zero, h, e) = λ q. let p : Server ≡ Any = e ∙ q in cc
 is-real w (suc (suc k), h, e) = absurd (omega (arith, h))
+
+-- a site stands at each other world
+pub real-world : (w : World) → w ≢ Any → IsSiteWorld w
+real-world Home h = (0, omega arith, refl)
+real-world Server h = (1, omega arith, refl)
+real-world Any h = absurd (h refl)
+
+-- what holds of each world that is not any holds of each that has sites
+pub each-real : (Q : World → Type 0) → ((w : World) → w ≢ Any → Q w) → Each Q site_worlds
+each-real Q f = (f Home home, (f Server server, tt))
+  where
+    home : Home ≢ Any
+    home e = cc
+
+    server : Server ≢ Any
+    server e = cc
