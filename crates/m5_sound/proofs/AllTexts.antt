@@ -15,7 +15,7 @@ use Rattle.m5_sound.specs.Texts.{QueryHasTexts, ReplyHasTexts, DeedHasTexts, Act
 use Rattle.m5_sound.specs.Laws.{TextsStayTexts}
 use Rattle.m5_sound.proofs.SiteTexts.{site-texts, items-texts}
 use Rattle.m5_sound.proofs.Networks.{DeedFine, reached}
-use Rattle.m5_sound.proofs.Growth.{each-map}
+use Rattle.m5_terms.proofs.Lists.{each-map}
 
 found-texts : (r : AnswerOf Item) → ReplyHasTexts r → IsText (text_found r)
 found-texts (answer.Found t) h = h

@@ -20,8 +20,9 @@ use Rattle.m5_network.specs.Board.{Watch, Trigger, Happening, Handling, Desk, Bo
 use Rattle.m5_sound.specs.Settings.{setting, Grows}
 use Rattle.m5_sound.specs.Sites.{ItemTyped, QueryTyped, ReplyTyped, IsAnswer}
 use Rattle.m5_sound.specs.Texts.{DeskHasTexts}
-use Rattle.m5_sound.proofs.Worlds.{by-world}
-use Rattle.m5_sound.proofs.Growth.{more, each-append, items-grown}
+use Rattle.m5_terms.proofs.SiteWorlds.{by-world}
+use Rattle.m5_terms.proofs.Lists.{each-append}
+use Rattle.m5_sound.proofs.Growth.{more, items-grown}
 
 -- what a session has on the board is typed
 pub record DeskTyped (E : Setting) (d : Desk Item) : Type 0 where

@@ -19,7 +19,8 @@ use Rattle.m5_meaning.specs.Site.{Thread, Site, Item, thread, raw}
 use Rattle.m5_sound.specs.Settings.{with_cells, Grows, GrowsAt}
 use Rattle.m5_sound.specs.Threads.{Fits, FramesTyped, FocusTyped, ThreadTyped}
 use Rattle.m5_sound.specs.Sites.{ValueTyped, CellsTyped, HandlerTyped, SiteTyped, ItemTyped, ReplyTyped}
-use Rattle.m5_sound.proofs.Worlds.{by-world}
+use Rattle.m5_terms.proofs.Lists.{each-map, each-append}
+use Rattle.m5_terms.proofs.SiteWorlds.{by-world}
 
 type-stays : (As Bs : List TypeExpression) (n : ℕ) (A : TypeExpression) → type_at As n ≡ Some A → type_at (As ++ Bs) n ≡ Some A
 type-stays [] Bs n A e = cc
@@ -64,14 +65,6 @@ focus-grown E F m u fs (Returned w e) t = (t.0, record { of = t.1.of; stands = t
 
 pub thread-grown : (E F : Setting) → Extends E F → (u : World) (t : Thread) → ThreadTyped E u t → ThreadTyped F u t
 thread-grown E F m u t d = focus-grown E F m u t.frames t.focus d
-
-pub each-map : {A : Type 0} → (P Q : A → Type 0) → ((a : A) → P a → Q a) → (l : List A) → Each P l → Each Q l
-each-map P Q f [] t = tt
-each-map P Q f (a ∷ l) t = (f a t.0, each-map P Q f l t.1)
-
-pub each-append : {A : Type 0} → (P : A → Type 0) (l m : List A) → Each P l → Each P m → Each P (l ++ m)
-each-append P [] m s t = t
-each-append P (a ∷ l) m s t = (s.0, each-append P l m s.1 t)
 
 pub value-grown : (E F : Setting) → Extends E F → (u : World) (v : Expression) (A : TypeExpression) → ValueTyped E u v A → ValueTyped F u v A
 value-grown E F m u v A c = (c.0, grown E F m v nothing u A c.1)

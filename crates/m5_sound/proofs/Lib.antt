@@ -1,4 +1,3 @@
-pub mod Worlds
 pub mod Growth
 pub mod Parts
 pub mod TextBytes

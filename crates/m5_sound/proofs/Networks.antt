@@ -27,15 +27,17 @@ use Rattle.m5_network.specs.Board.{Board, Happening, answer_of, at_session, at_w
 use Rattle.m5_network.specs.Entries.{Deed, shown, read_shown, take_shown, entry_of}
 use Rattle.m5_network.specs.Claim.{has_seal, primitive_of, IsAtItsWorld}
 use Rattle.m5_network.specs.Opening.{opening, opening_site, opening_threads, happening}
-use Rattle.m5_network.specs.Run.{Network, Place, NextAsk, Answers, Stops, Makes, Run, with_site}
+use Rattle.m5_network.specs.Kinds.{NetworkOf, IsStoppedBy, MakesDeed, StepOf, RunOf}
+use Rattle.m5_network.specs.Run.{Network, Place, NextAsk, Answers, Licence, IsLicensed, halted, source_kind, Run, with_site}
 use Rattle.m5_sound.specs.Settings.{setting, Grows, GrowsAt}
 use Rattle.m5_sound.specs.Threads.{ThreadTyped}
 use Rattle.m5_sound.specs.Sites.{SiteTyped, ItemTyped, QueryTyped, ReplyTyped, AnswersTyped, NextTyped}
 use Rattle.m5_sound.specs.Texts.{ReplyHasTexts, DeedHasTexts}
 use Rattle.m5_sound.specs.Networks.{NetworkTyped, ComesTo}
 use Rattle.m5_sound.specs.Laws.{PrimitivesAreAtTheirWorlds, OpeningIsTyped, RunsKeepTypes, AllStaysTyped, EachThreadGoesOn, NoSiteGoesWrong}
-use Rattle.m5_sound.proofs.Worlds.{by-world, is-real}
-use Rattle.m5_sound.proofs.Growth.{more, grows-self, grows-on, own-self, own-on, site-grown, each-map}
+use Rattle.m5_terms.proofs.SiteWorlds.{by-world, is-real}
+use Rattle.m5_terms.proofs.Lists.{each-map}
+use Rattle.m5_sound.proofs.Growth.{more, grows-self, grows-on, own-self, own-on, site-grown}
 use Rattle.m5_sound.proofs.Steps.{next-typed, declares}
 use Rattle.m5_sound.proofs.Boards.{BoardTyped, AnswerTyped, at-each, answer-typed, answer-kind, board-grown}
 use Rattle.m5_sound.proofs.SiteTexts.{query-texts, reply-texts}
@@ -155,7 +157,7 @@ asked-resumed P T N s w q resume k told =
     let y = k.answers k.cells (answer_of N.board s w q).reply (grows-self k.cells) refl (answer-kind N.board s w q told) k.reply in
     record { site = y.0; is = y.1; typed = y.2 }
 
-answer-step : (P : Program) (T : ℕ → CellTypes) (N M : Network) (s : ℕ) (w : World) (d : Deed Item) → IsProgram P → w ≢ Any → NetworkTyped P T N → Answers P N s w d M → StepTyped P T d M
+pub answer-step : (P : Program) (T : ℕ → CellTypes) (N M : Network) (s : ℕ) (w : World) (d : Deed Item) → IsProgram P → w ≢ Any → NetworkTyped P T N → Answers P N s w d M → StepTyped P T d M
 answer-step P T N M s w d h r t a =
     let k = next-asked P T N s w d.query a.resume h r t a.next in
     let y = asked-resumed P T N s w d.query a.resume k (λ e. a.told (a.reply ∙ e)) in
@@ -171,8 +173,8 @@ answer-step P T N M s w d h r t a =
       };
     }
 
-stop-step : (P : Program) (S : Scenario) (T : ℕ → CellTypes) (N M : Network) (s : ℕ) (w : World) (cause : Cause) (d : Deed Item) → w ≢ Any → NetworkTyped P T N → Stops P S N s w cause d M → StepTyped P T d M
-stop-step P S T N M s w cause d r t a = record {
+pub stop-step : (P : Program) (licensed : Site → Type 0) (T : ℕ → CellTypes) (N M : Network) (s : ℕ) (w : World) (cause : Cause) (d : Deed Item) → w ≢ Any → NetworkTyped P T N → IsStoppedBy licensed halted N s w cause d M → StepTyped P T d M
+stop-step P licensed T N M s w cause d r t a = record {
   to = at_session s (T s) T;
   grows = grows-one T s (T s) (grows-self (T s));
   typed = subst (λ K. NetworkTyped P (at_session s (T s) T) K) (sym a.after)
@@ -180,9 +182,10 @@ stop-step P S T N M s w cause d r t a = record {
   deed = subst DeedFine (sym a.deed) (record { texts = record { query = tt; reply = tt }; world = tt });
 }
 
-makes-step : (P : Program) (S : Scenario) (T : ℕ → CellTypes) (N M : Network) (p : Place) (d : Deed Item) (o : Option Cause) → IsProgram P → p.world ≢ Any → NetworkTyped P T N → Makes P S N p d M o → StepTyped P T d M
-makes-step P S T N M p d None h r t a = answer-step P T N M p.session p.world d h r t a
-makes-step P S T N M p d (Some cause) h r t a = stop-step P S T N M p.session p.world cause d r t a
+-- whatever licenses its stop
+makes-step : (P : Program) (licensed : Licence) (T : ℕ → CellTypes) (N M : Network) (p : Place) (d : Deed Item) (o : Option Cause) → IsProgram P → p.world ≢ Any → NetworkTyped P T N → MakesDeed (source_kind P licensed) N p d M o → StepTyped P T d M
+makes-step P licensed T N M p d None h r t a = answer-step P T N M p.session p.world d h r t a
+makes-step P licensed T N M p d (Some cause) h r t a = stop-step P (licensed p.session p.world cause) T N M p.session p.world cause d r t a
 
 -- a whole run
 pub record RunTyped (P : Program) (T : ℕ → CellTypes) (ds : List (Deed Item)) (M : Network) : Type 0 where
@@ -191,14 +194,17 @@ pub record RunTyped (P : Program) (T : ℕ → CellTypes) (ds : List (Deed Item)
   pub typed : NetworkTyped P to M
   pub deeds : Each DeedFine ds
 
-pub run-typed : (P : Program) (S : Scenario) (N M : Network) (ps : List Place) (ds : List (Deed Item)) (T : ℕ → CellTypes) → IsProgram P → Run P S N ps ds M → NetworkTyped P T N → RunTyped P T ds M
-run-typed P S N M [] [] T h r t = record { to = T; grows = λ s. grows-self (T s); typed = subst (λ K. NetworkTyped P T K) (sym r) t; deeds = tt }
-run-typed P S N M [] (d ∷ ds) T h r t = absurd r
-run-typed P S N M (p ∷ ps) [] T h r t = absurd r
-run-typed P S N M (p ∷ ps) (d ∷ ds) T h r t =
-    let k = makes-step P S T N r.0 p d p.cause h (is-real p.world r.1.site.world) t r.1.makes in
-    let l = run-typed P S r.0 M ps ds k.to h r.2 k.typed in
+pub runs-typed : (P : Program) (licensed : Licence) (n : ℕ) (N M : Network) (ps : List Place) (ds : List (Deed Item)) (T : ℕ → CellTypes) → IsProgram P → RunOf (source_kind P licensed) n N ps ds M → NetworkTyped P T N → RunTyped P T ds M
+runs-typed P licensed n N M [] [] T h r t = record { to = T; grows = λ s. grows-self (T s); typed = subst (λ K. NetworkTyped P T K) (sym r) t; deeds = tt }
+runs-typed P licensed n N M [] (d ∷ ds) T h r t = absurd r
+runs-typed P licensed n N M (p ∷ ps) [] T h r t = absurd r
+runs-typed P licensed n N M (p ∷ ps) (d ∷ ds) T h r t =
+    let k = makes-step P licensed T N r.0 p d p.cause h (is-real p.world r.1.site.world) t r.1.makes in
+    let l = runs-typed P licensed n r.0 M ps ds k.to h r.2 k.typed in
     record { to = l.to; grows = λ s. grows-on (T s) (k.to s) (l.to s) (k.grows s) (l.grows s); typed = l.typed; deeds = (k.deed, l.deeds) }
+
+pub run-typed : (P : Program) (S : Scenario) (N M : Network) (ps : List Place) (ds : List (Deed Item)) (T : ℕ → CellTypes) → IsProgram P → Run P S N ps ds M → NetworkTyped P T N → RunTyped P T ds M
+run-typed P S N M ps ds T h r t = runs-typed P (λ s w cause x. IsLicensed P S w cause x) S.sessions N M ps ds T h r t
 
 pub keeps-types : RunsKeepTypes
 keeps-types P S N M ps ds T h r t = let k = run-typed P S N M ps ds T h r t in (k.to, k.grows, k.typed)

@@ -22,7 +22,7 @@ use Rattle.m5_sound.specs.Settings.{setting}
 use Rattle.m5_sound.specs.Sites.{SiteTyped, NextTyped}
 use Rattle.m5_sound.specs.Networks.{NetworkTyped}
 use Rattle.m5_sound.specs.Laws.{SomethingCanHappen}
-use Rattle.m5_sound.proofs.Worlds.{is-real}
+use Rattle.m5_terms.proofs.SiteWorlds.{is-real}
 use Rattle.m5_sound.proofs.Steps.{next-typed, declares}
 use Rattle.m5_sound.proofs.Networks.{run-typed, opening-is-typed, next-asked, asked-resumed}
 use Rattle.m5_sound.proofs.Counts.{CountsOne, next-counts}

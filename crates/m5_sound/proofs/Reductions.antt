@@ -36,7 +36,7 @@ use Rattle.m5_meaning.specs.Parts.{unary_parts, parts}
 use Rattle.m5_meaning.specs.Reduction.{Reduced, gives, makes_text, goes_on, makes_cell, loads, stores, leaves, says, sets, writes, gets, reads, handles, watches, wrong, unit_value, unit_or, called_extern, called_function, called, first_of, second_of, text_of_number, divided, operated, at_cell, got, unheld, unsham, reduced_unary, reduced_binary, chosen, case_of_sum, case_of_list, reduced_ternary, reduced}
 use Rattle.m5_meaning.specs.Site.{Program}
 use Rattle.m5_sound.specs.Sites.{ValueTyped, HandlerTyped, QueryTyped}
-use Rattle.m5_sound.proofs.Worlds.{by-world}
+use Rattle.m5_terms.proofs.SiteWorlds.{by-world}
 use Rattle.m5_sound.proofs.Growth.{grown}
 use Rattle.m5_sound.proofs.Parts.{form-of, both-are}
 use Rattle.m5_sound.proofs.TextBytes.{text-append, signed-text}

@@ -22,7 +22,8 @@ use Rattle.m5_meaning.specs.Step.{SiteNext, thread_of, stepped, stopped_by, stop
 use Rattle.m5_sound.specs.Settings.{with_cells}
 use Rattle.m5_sound.specs.Threads.{FramesTyped, FocusTyped, ThreadTyped}
 use Rattle.m5_sound.specs.Sites.{ValueTyped, HandlerTyped, SiteTyped, QueryTyped, IsAnswer, AnswersTyped, IsTypedNext, NextTyped}
-use Rattle.m5_sound.proofs.Growth.{more, frames-grown, each-append, site-grown, own-self}
+use Rattle.m5_terms.proofs.Lists.{each-append}
+use Rattle.m5_sound.proofs.Growth.{more, frames-grown, site-grown, own-self}
 use Rattle.m5_sound.proofs.Reductions.{left-unit}
 
 abbrev pub with_threads : Site → List Thread → Site

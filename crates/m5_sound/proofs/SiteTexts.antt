@@ -17,7 +17,7 @@ use Rattle.m5_typing.specs.Context.{Setting, nothing}
 use Rattle.m5_sound.specs.Threads.{FramesTyped, FocusTyped, ThreadTyped}
 use Rattle.m5_sound.specs.Sites.{CellsTyped, HandlerTyped, SiteTyped, ItemTyped, QueryTyped, ReplyTyped}
 use Rattle.m5_sound.specs.Texts.{HasTexts, FrameHasTexts, FocusHasTexts, ThreadHasTexts, SiteHasTexts, ItemHasTexts, QueryHasTexts, ReplyHasTexts}
-use Rattle.m5_sound.proofs.Growth.{each-map}
+use Rattle.m5_terms.proofs.Lists.{each-map}
 use Rattle.m5_sound.proofs.TextBytes.{typed-texts}
 
 frames-texts : (E : Setting) (fs : List Frame) (u x : World) (A : TypeExpression) → FramesTyped E u fs x A → Each FrameHasTexts fs

@@ -32,7 +32,8 @@ use Rattle.m5_sound.specs.Settings.{with_cells, setting, GrowsAt}
 use Rattle.m5_sound.specs.Threads.{StandsAt, is_ready, FramesTyped, FocusTyped, ThreadTyped}
 use Rattle.m5_sound.specs.Sites.{CellsTyped, HandlerTyped, SiteTyped, QueryTyped, NextTyped}
 use Rattle.m5_sound.specs.Laws.{TypedSitesGoOn}
-use Rattle.m5_sound.proofs.Growth.{more, longer-own, frames-grown, threads-grown, each-map, each-append, value-grown, cells-grown, cell-there, cell-set, cell-added, last-type, longer, longer-at}
+use Rattle.m5_terms.proofs.Lists.{each-map, each-append}
+use Rattle.m5_sound.proofs.Growth.{more, longer-own, frames-grown, threads-grown, value-grown, cells-grown, cell-there, cell-set, cell-added, last-type, longer, longer-at}
 use Rattle.m5_sound.proofs.Parts.{part-fits, stands-filled, stands-part, both-are}
 use Rattle.m5_sound.proofs.TextBytes.{typed-texts}
 use Rattle.m5_sound.proofs.Reductions.{Outcome, Declares, is_complete, second_is_ready, reduced-typed, form-reduces}

@@ -1,8 +1,9 @@
+pub mod Lists
+pub mod SiteWorlds
 pub mod Diagrams
 pub mod Passes
 pub mod Rests
 pub mod Digits
 pub mod Quoting
 pub mod PerWorlds
-pub mod SiteWorlds
 pub mod Tables
