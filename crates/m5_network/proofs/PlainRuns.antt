@@ -5,7 +5,7 @@ use Rattle.std.proofs.lemmas.List.Elements.{recursion_from_All}
 use Rattle.std.specs.List.{AllByRecursion as Each}
 use Rattle.m5_terms.specs.Worlds.{site_worlds, IsSiteWorld}
 use Rattle.m5_terms.proofs.Lists.{each-map, each-append}
-use Rattle.m5_terms.proofs.SiteWorlds.{real-world, each-real}
+use Rattle.m5_terms.proofs.SiteWorlds.{has-site, each-real}
 use Rattle.m5_terms.specs.declared.types.World.{World}
 use Rattle.m5_terms.specs.declared.types.World.TheVariants.{Any}
 use Rattle.m5_terms.specs.declared.ask.Cause.{Cause}
@@ -92,7 +92,7 @@ rounds-run K h n N M xs (round ∷ rounds) i t = joins K n N t.0 M (joined round
 -- the sites of a script
 
 script-named : (n : ℕ) (x : SiteName) → scenario.IsSite n x → IsNamed n x
-script-named n x h = record { from_one = h.there.0; to_last = h.there.1; world = real-world x.world h.world }
+script-named n x h = record { from_one = h.there.0; to_last = h.there.1; world = has-site x.world h.world }
 
 -- the order names sites of the run alone
 pub order-named : (S : Scenario) → IsScript S → Each (IsNamed S.sessions) S.order
@@ -110,7 +110,7 @@ first-named : (n m : ℕ) → m ≤ n → Each (IsNamed n) (sites_of m)
 first-named n zero h = tt
 first-named n (suc m) h =
     each-append (IsNamed n) (sites_of m) (map (site_of (suc m)) site_worlds) (first-named n m (omega (arith, h)))
-    (each-site (IsNamed n) (suc m) site_worlds (each-real (λ w. IsNamed n (site_of (suc m) w)) (λ w r. record { from_one = omega arith; to_last = h; world = real-world w r })))
+    (each-site (IsNamed n) (suc m) site_worlds (each-real (λ w. IsNamed n (site_of (suc m) w)) (λ w r. record { from_one = omega arith; to_last = h; world = has-site w r })))
 
 -- a round is of sites of the run alone
 pub round-named : (n : ℕ) → Each (IsNamed n) (sites_of n)

@@ -32,7 +32,8 @@ by-world P v w f g = by (same_world v w) (same-true v w) (same-false v w)
     by true e n = f (e refl)
     by false e n = g (n refl)
 
-none-any : Each (λ (w : World). w ≢ Any) site_worlds
+-- none of them is any
+pub none-any : Each (λ (w : World). w ≢ Any) site_worlds
 none-any = (λ e. cc, (λ e. cc, (λ e. cc, tt)))
 
 -- no site stands at any
@@ -40,15 +41,15 @@ pub is-real : (w : World) → IsSiteWorld w → w ≢ Any
 is-real w i = All-contains (λ (v : World). v ≢ Any) site_worlds w (All-from_recursion (λ (v : World). v ≢ Any) site_worlds none-any) i
 
 -- a site stands at each other world
-pub real-world : (w : World) → w ≢ Any → IsSiteWorld w
-real-world Home n = (0, omega arith, refl)
-real-world Server n = (1, omega arith, refl)
-real-world Panel n = (2, omega arith, refl)
-real-world Any n = absurd (n refl)
+pub has-site : (w : World) → w ≢ Any → IsSiteWorld w
+has-site Home n = (0, omega arith, refl)
+has-site Server n = (1, omega arith, refl)
+has-site Panel n = (2, omega arith, refl)
+has-site Any n = absurd (n refl)
 
 -- what holds of each world of the list holds of each world that is not any
 pub at-each : (P : World → Type 0) → All P site_worlds → (w : World) → w ≢ Any → P w
-at-each P h w n = All-contains P site_worlds w h (real-world w n)
+at-each P h w n = All-contains P site_worlds w h (has-site w n)
 
 -- what holds of each world that is not any holds of each that has sites
 pub each-real : (Q : World → Type 0) → ((w : World) → w ≢ Any → Q w) → Each Q site_worlds
