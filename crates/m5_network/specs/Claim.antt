@@ -40,6 +40,7 @@ primitive_of (act.ReadNone k) = Some primitive.Read
 primitive_of (act.ReadSome k t) = Some primitive.Read
 primitive_of (act.Write k t) = Some primitive.Write
 primitive_of (act.Watch k) = Some primitive.Watch
+primitive_of (act.Show t) = Some primitive.Show
 primitive_of _ = None
 
 abbrev pub IsAtItsWorld : Option Primitive → World → Type 0

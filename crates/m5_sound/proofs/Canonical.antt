@@ -57,6 +57,7 @@ canonical E u (leaf (leaf_form.Extern x)) A (p, d) = subst (Canonical E u (leaf 
     extern-form primitive.Read h = an_extern primitive.Read _ _ h refl
     extern-form primitive.Write h = an_extern primitive.Write _ _ h refl
     extern-form primitive.Watch h = an_extern primitive.Watch _ _ h refl
+    extern-form primitive.Show h = an_extern primitive.Show _ _ h refl
 canonical E u (leaf (leaf_form.Glob f)) A (p, d) =
     subst (Canonical E u (leaf (leaf_form.Glob f))) (sym d.0.2) (a_declared f d.0.0 d.0.1 (subst (λ T. IsKnownAt (E.functions f) u T) d.0.2 d.0.3))
 canonical E u (leaf _) A (p, d) = cc

@@ -6,7 +6,7 @@ use Rattle.std.proofs.lemmas.List.Elements.{All-from_recursion, recursion_from_A
 use Rattle.m5_terms.specs.TypeExpression.{unit}
 use Rattle.m5_terms.specs.Text.{IsText}
 use Rattle.m5_terms.specs.declared.types.World.{World}
-use Rattle.m5_terms.specs.declared.types.World.TheVariants.{Home, Server, Any}
+use Rattle.m5_terms.specs.declared.types.World.TheVariants.{Home, Any}
 use Rattle.m5_terms.specs.declared.ask.Cause.{Cause}
 use Rattle.m5_terms.specs.declared.ask.Entry.{Entry}
 use Rattle.m5_terms.specs.declared.types.Primitive.TheVariants as primitive
@@ -217,8 +217,7 @@ raws-typed E w (r ∷ rs) = (tt, raws-typed E w rs)
 
 opening-typed : (P : Program) → IsProgram P → (w : World) → SiteTyped (setting P (λ w. [])) w (opening_site (opening_threads P w))
 opening-typed P h Home = ((record { of = unit; stands = inl refl; typed = h.main; frames = refl }, tt), tt, tt)
-opening-typed P h Server = (tt, tt, tt)
-opening-typed P h Any = (tt, tt, tt)
+opening-typed P h _ = (tt, tt, tt)
 
 pub opening-is-typed : OpeningIsTyped
 opening-is-typed P S h k = record {

@@ -7,7 +7,7 @@ use Rattle.m5_terms.specs.Text.{IsText}
 use Rattle.m5_terms.specs.Primitives.{primitive_world, primitive_type}
 use Rattle.m5_terms.specs.Substitution.{substituted}
 use Rattle.m5_terms.specs.declared.types.World.{World}
-use Rattle.m5_terms.specs.declared.types.World.TheVariants.{Home, Server, Any}
+use Rattle.m5_terms.specs.declared.types.World.TheVariants.{Any}
 use Rattle.m5_terms.specs.declared.types.Primitive.{Primitive}
 use Rattle.m5_terms.specs.declared.types.Primitive.TheVariants as primitive
 use Rattle.m5_terms.specs.declared.types.Op.{Op}
@@ -33,7 +33,7 @@ use Rattle.m5_typing.proofs.Substitute.{substitution_law}
 use Rattle.m5_typing.proofs.Declared.{declared_is_typed}
 use Rattle.m5_terms.specs.declared.ask.AskOf.TheVariants as ask
 use Rattle.m5_meaning.specs.Parts.{unary_parts, parts}
-use Rattle.m5_meaning.specs.Reduction.{Reduced, gives, makes_text, goes_on, makes_cell, loads, stores, leaves, says, sets, writes, gets, reads, handles, watches, wrong, unit_value, unit_or, called_extern, called_function, called, first_of, second_of, text_of_number, divided, operated, at_cell, got, unheld, unsham, reduced_unary, reduced_binary, chosen, case_of_sum, case_of_list, reduced_ternary, reduced}
+use Rattle.m5_meaning.specs.Reduction.{Reduced, gives, makes_text, goes_on, makes_cell, loads, stores, leaves, says, shows, sets, writes, gets, reads, handles, watches, wrong, unit_value, unit_or, called_extern, called_function, called, first_of, second_of, text_of_number, divided, operated, at_cell, got, unheld, unsham, reduced_unary, reduced_binary, chosen, case_of_sum, case_of_list, reduced_ternary, reduced}
 use Rattle.m5_meaning.specs.Site.{Program}
 use Rattle.m5_sound.specs.Sites.{ValueTyped, HandlerTyped, QueryTyped}
 use Rattle.m5_terms.proofs.SiteWorlds.{by-world}
@@ -52,6 +52,7 @@ Outcome E u A (loads n) = type_at (E.cells u) n ≡ Some A
 Outcome E u A (stores n v) = (B : TypeExpression) × (A ≡ unit) × (type_at (E.cells u) n ≡ Some B) × ValueTyped E u v B
 Outcome E u A (leaves v e) = (v ≢ u) × (v ≢ Any) × IsTrue (mobile A) × Typed E nothing v e A
 Outcome E u A (says t) = (A ≡ unit) × QueryTyped E u (ask.Say t)
+Outcome E u A (shows t) = (A ≡ unit) × QueryTyped E u (ask.Show t)
 Outcome E u A (sets e t) = (A ≡ unit) × QueryTyped E u (ask.Set e t)
 Outcome E u A (writes k t) = (A ≡ unit) × QueryTyped E u (ask.Write k t)
 Outcome E u A (gets e) = (A ≡ string) × QueryTyped E u (ask.GetText e)
@@ -146,6 +147,9 @@ store-typed E u v b A (a_cell w n A' h e) c = own-cell E u w unit (stores n b) h
 says-typed : (E : Setting) (u : World) (v : Expression) → u ≡ primitive_world primitive.Say → Canonical E u v string → Outcome E u unit (called_extern primitive.Say v)
 says-typed E u v h (a_text s i) = (refl, (h, i))
 
+shows-typed : (E : Setting) (u : World) (v : Expression) → u ≡ primitive_world primitive.Show → Canonical E u v string → Outcome E u unit (called_extern primitive.Show v)
+shows-typed E u v h (a_text s i) = (refl, (h, i))
+
 gets-typed : (E : Setting) (u : World) (v : Expression) → u ≡ primitive_world primitive.GetText → Canonical E u v string → Outcome E u string (called_extern primitive.GetText v)
 gets-typed E u v h (a_text s i) = (refl, (h, i))
 
@@ -191,6 +195,7 @@ extern-typed E u primitive.On v A B h e c = extern-at E u primitive.On v A B _ _
 extern-typed E u primitive.Read v A B h e c = extern-at E u primitive.Read v A B _ _ e (reads-typed E u v h) c
 extern-typed E u primitive.Write v A B h e c = extern-at E u primitive.Write v A B _ _ e (λ k. (sets-typed E u v k).writes h) c
 extern-typed E u primitive.Watch v A B h e c = extern-at E u primitive.Watch v A B _ _ e (λ k. (handles-typed E u v k).watches h) c
+extern-typed E u primitive.Show v A B h e c = extern-at E u primitive.Show v A B _ _ e (shows-typed E u v h) c
 
 -- a declared function that is known at u is typed there
 pub record BodyAt (E : Setting) (x : ℕ) (u : World) (C D A B : TypeExpression) (b : Expression) : Type 0 where
@@ -200,16 +205,12 @@ pub record BodyAt (E : Setting) (x : ℕ) (u : World) (C D A B : TypeExpression)
 
 body-at : (E : Setting) (x : ℕ) (w u : World) (C D A B : TypeExpression) (b : Expression) → IsKnownAt (Some (bound_at w (function C D))) u (function A B) →
     Typed E (with x (Some (local w C)) nothing) w b D → BodyAt E x u C D A B b
-body-at E x Home u C D A B b (inl k) d =
-    let e : Home ≡ u = let q = k.1 in cc in
-    record { from = let q = k.1 in cc; to = let q = k.1 in cc; body = subst (λ v. Typed E (with x (Some (local v C)) nothing) v b D) e d }
-body-at E x Home u C D A B b (inr k) d = cc
-body-at E x Server u C D A B b (inl k) d =
-    let e : Server ≡ u = let q = k.1 in cc in
-    record { from = let q = k.1 in cc; to = let q = k.1 in cc; body = subst (λ v. Typed E (with x (Some (local v C)) nothing) v b D) e d }
-body-at E x Server u C D A B b (inr k) d = cc
 body-at E x Any u C D A B b (inl k) d = let q = k.1 in cc
 body-at E x Any u C D A B b (inr k) d = record { from = cc; to = cc; body = anywhere-one E x C b D d u }
+body-at E x w u C D A B b (inl k) d =
+    let e : w ≡ u = let q = k.1 in cc in
+    record { from = let q = k.1 in cc; to = let q = k.1 in cc; body = subst (λ v. Typed E (with x (Some (local v C)) nothing) v b D) e d }
+body-at E x w u C D A B b (inr k) d = cc
 
 -- what a program's functions need is known
 declared-in : (E : Setting) (P : Program) → Declares E P → (e : Expression) (G : Context) (w : World) (A : TypeExpression) → Typed (setting_of P.functions) G w e A → Typed E G w e A

@@ -61,6 +61,7 @@ query-texts E u (ask.On e n) t = t.1
 query-texts E u (ask.Read k) t = t.1
 query-texts E u (ask.Write k x) t = (t.1, t.2)
 query-texts E u (ask.Watch k n) t = t.1
+query-texts E u (ask.Show x) t = t.1
 query-texts E u ask.Take t = t
 query-texts E u (ask.Stop c) t = t
 

@@ -26,7 +26,7 @@ use Rattle.m5_typing.specs.Laws.{Extends}
 use Rattle.m5_typing.proofs.Weaken.{same}
 use Rattle.m5_typing.proofs.Mobile.{moves}
 use Rattle.m5_meaning.specs.Parts.{binary_parts, parts, part, fill, inner_world}
-use Rattle.m5_meaning.specs.Reduction.{Reduced, gives, makes_text, goes_on, makes_cell, loads, stores, leaves, says, sets, writes, gets, reads, handles, watches, wrong, unit_value, text_value, reduced}
+use Rattle.m5_meaning.specs.Reduction.{Reduced, gives, makes_text, goes_on, makes_cell, loads, stores, leaves, says, shows, sets, writes, gets, reads, handles, watches, wrong, unit_value, text_value, reduced}
 use Rattle.m5_meaning.specs.Step.{SiteNext, thread_of, stepped, is_full, stops_full, atom, loaded, stored, after_done, adds_handler, outcome, part_begun, evaluated, returned, focused, front, site_next}
 use Rattle.m5_sound.specs.Settings.{with_cells, setting, GrowsAt}
 use Rattle.m5_sound.specs.Threads.{StandsAt, is_ready, FramesTyped, FocusTyped, ThreadTyped}
@@ -130,6 +130,7 @@ outcome-typed P E u s ts fs (leaves v e) A t o f =
     (o.0, o.1, record { of = A; stands = inl refl; typed = o.3; frames = record { here = refl; away = λ q. o.0 (sym q); real = t.real; mobile = o.2; rest = f } })
     (done-typed P E u (ask.Send v (thread (thread_of (Return u ∷ fs) (Eval v e)))) s ts tt (rest-of P E u s ts t))
 outcome-typed P E u s ts fs (says x) A t o f = tells-typed P E u s ts fs (ask.Say x) A tt o.1 o.0 t f
+outcome-typed P E u s ts fs (shows x) A t o f = tells-typed P E u s ts fs (ask.Show x) A tt o.1 o.0 t f
 outcome-typed P E u s ts fs (sets e x) A t o f = tells-typed P E u s ts fs (ask.Set e x) A tt o.1 o.0 t f
 outcome-typed P E u s ts fs (writes k x) A t o f = tells-typed P E u s ts fs (ask.Write k x) A tt o.1 o.0 t f
 outcome-typed P E u s ts fs (gets e) A t o f = asks-typed E u _ _ o.1 (get-text-typed P E u s ts fs e (subst (λ B. FramesTyped E u fs u B) o.0 f) (rest-of P E u s ts t))

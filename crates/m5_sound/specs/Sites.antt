@@ -51,6 +51,7 @@ QueryTyped E u (ask.On e n) = (u ≡ primitive_world primitive.On) × IsText e
 QueryTyped E u (ask.Read k) = (u ≡ primitive_world primitive.Read) × IsText k
 QueryTyped E u (ask.Write k t) = (u ≡ primitive_world primitive.Write) × IsText k × IsText t
 QueryTyped E u (ask.Watch k n) = (u ≡ primitive_world primitive.Watch) × IsText k
+QueryTyped E u (ask.Show t) = (u ≡ primitive_world primitive.Show) × IsText t
 QueryTyped E u (ask.Send v i) = (v ≢ u) × (v ≢ Any) × ItemTyped E v i
 QueryTyped E u ask.Take = Unit {0}
 QueryTyped E u (ask.Stop c) = Unit {0}

@@ -61,6 +61,7 @@ QueryHasTexts (ask.On e n) = IsText e
 QueryHasTexts (ask.Read k) = IsText k
 QueryHasTexts (ask.Write k t) = IsText k × IsText t
 QueryHasTexts (ask.Watch k n) = IsText k
+QueryHasTexts (ask.Show t) = IsText t
 QueryHasTexts (ask.Send v i) = ItemHasTexts i
 QueryHasTexts _ = Unit {0}
 
@@ -85,6 +86,7 @@ ActHasTexts (act.ReadNone k) = IsText k
 ActHasTexts (act.ReadSome k t) = IsText k × IsText t
 ActHasTexts (act.Write k t) = IsText k × IsText t
 ActHasTexts (act.Watch k) = IsText k
+ActHasTexts (act.Show t) = IsText t
 ActHasTexts (act.Fire k) = IsText k
 ActHasTexts (act.Event e t) = IsText e × IsText t
 ActHasTexts _ = Unit {0}
