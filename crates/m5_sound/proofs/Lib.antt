@@ -12,3 +12,7 @@ pub mod Soundness
 pub mod AllTexts
 pub mod Counts
 pub mod Progress
+pub mod Places
+pub mod Handlers
+pub mod Numbers
+pub mod Holding

@@ -4,4 +4,5 @@ pub mod Sites
 pub mod Networks
 pub mod Texts
 pub mod SourceMachine
+pub mod Numbers
 pub mod Laws
