@@ -17,19 +17,21 @@ use Rattle.m5_network.specs.Board.{Board, at_session, text_at, text_or_missing, 
 use Rattle.m5_network.specs.Entries.{Deed}
 use Rattle.m5_network.specs.Opening.{opening}
 use Rattle.m5_network.specs.Run.{Network, Place, NextAsk, Answers, Licence, with_site, source_kind}
-use Rattle.m5_sound.specs.Settings.{setting}
-use Rattle.m5_sound.specs.Sites.{QueryTyped, ReplyTyped}
-use Rattle.m5_sound.specs.SourceMachine.{IsAnswerTo, NamesHandlers, IsLawful, source_machine}
+use Rattle.m5_site_sound.specs.Settings.{setting}
+use Rattle.m5_site_sound.specs.Sites.{QueryTyped, ReplyTyped}
+use Rattle.m5_site_sound.specs.SourceMachine.{IsAnswerTo, IsLawful, source_machine}
+use Rattle.m5_terms.specs.Answers.{NamesHandlers}
 use Rattle.m5_sound.specs.Networks.{NetworkTyped}
 use Rattle.m5_terms.proofs.SiteWorlds.{is-real}
 use Rattle.m5_sound.proofs.Boards.{BoardTyped, answer-typed, answer-kind, board-grown}
-use Rattle.m5_sound.proofs.Networks.{SiteComes, comes-typed, Asked, next-asked, answer-step, stop-step, opening-is-typed}
-use Rattle.m5_sound.proofs.Soundness.{sites-are-sound}
+use Rattle.m5_site_sound.proofs.Onward.{SiteComes, comes-typed}
+use Rattle.m5_sound.proofs.Networks.{Asked, next-asked, answer-step, stop-step, opening-is-typed}
+use Rattle.m5_site_sound.proofs.Soundness.{sites-are-sound}
 use Rattle.m5_network.specs.Kinds.{MakesDeed, StepOf, RunOf}
 use Rattle.m5_sound.proofs.Places.{at-place}
 use Rattle.m5_sound.specs.Numbers.{counts_of, BoardNumbered}
 use Rattle.m5_sound.specs.Laws.{Stops, NumbersStayRight, AnswersAreLawful}
-use Rattle.m5_sound.proofs.Handlers.{Registers, CountsHandlers, next-handlers, comes-handlers}
+use Rattle.m5_site_sound.proofs.Handlers.{Registers, CountsHandlers, next-handlers, comes-handlers}
 use Rattle.m5_sound.proofs.Numbers.{RegistersAt, with_count, board-more, answer-names, answer-numbered}
 
 pub record Fine (P : Program) (N : Network) : Type 0 where
@@ -126,4 +128,4 @@ are-lawful licensed P S ps ds N s w q resume h k r i a told = answers-lawful P N
 
 -- where a typed network is sound
 pub fine-right : (P : Program) (N : Network) (s : ℕ) (w : World) → IsProgram P → w ≢ Any → Fine P N → GoesWrong (source_machine P w) (N.site s w) → ⊥
-fine-right P N s w h r f x = sites-are-sound P (f.cells s) w (N.site s w) h r (f.typed.sites s w r) (record { exchanges = []; at = N.site s w; behaves = refl; wrong_ = x })
+fine-right P N s w h r f x = sites-are-sound P (f.cells s) w (N.site s w) h r (f.typed.sites s w r) (record { exchanges = []; at = N.site s w; behaves = refl; goes_wrong = x })

@@ -12,12 +12,12 @@ use Rattle.m5_terms.specs.declared.ask.AskOf.{AskOf}
 use Rattle.m5_terms.specs.declared.ask.AskOf.TheVariants as ask
 use Rattle.m5_meaning.specs.Site.{Item}
 use Rattle.m5_network.specs.Board.{Watch, Trigger, Happening, Handling, Desk, Board, text_at, at_session, at_world, posted, handlers_of, Answered, text_or_missing, text_or_empty, take_event, take_trigger, take_other, take_from, take_at, answer_of}
-use Rattle.m5_sound.specs.SourceMachine.{NamesHandlers}
+use Rattle.m5_terms.specs.Answers.{NamesHandlers}
 use Rattle.m5_terms.proofs.Lists.{each-map, each-append}
 use Rattle.m5_sound.proofs.Boards.{at-each}
 use Rattle.m5_sound.proofs.Places.{at-place}
 use Rattle.m5_sound.specs.Numbers.{Differ, DeskNumbered, BoardNumbered}
-use Rattle.m5_sound.proofs.Handlers.{Registers}
+use Rattle.m5_site_sound.proofs.Handlers.{Registers}
 
 -- where each registering ask is made
 abbrev pub RegistersAt : World → AskOf Item → Type 0
@@ -92,11 +92,11 @@ look-names : (c : ℕ → World → ℕ) (b : Board Item) (s : ℕ) (w : World) 
 look-names c b s w [] t = other-names c b s w t
 look-names c b s w (v ∷ vs) t = from-names b s (c s w) w v ((b.desks s).link v w) (take_at b s w vs) (look-names c b s w vs t)
 
-missing-names : (n : ℕ) (o : Option (List ℕ)) → NamesHandlers n (text_or_missing o)
+missing-names : (n : ℕ) (o : Option (List ℕ)) → NamesHandlers {I = Item} n (text_or_missing o)
 missing-names n None = tt
 missing-names n (Some t) = tt
 
-empty-names : (n : ℕ) (o : Option (List ℕ)) → NamesHandlers n (text_or_empty o)
+empty-names : (n : ℕ) (o : Option (List ℕ)) → NamesHandlers {I = Item} n (text_or_empty o)
 empty-names n None = tt
 empty-names n (Some t) = tt
 

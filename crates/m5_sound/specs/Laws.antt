@@ -20,22 +20,15 @@ use Rattle.m5_network.specs.Opening.{opening}
 use Rattle.m5_network.specs.Board.{answer_of}
 use Rattle.m5_network.specs.Kinds.{RunOf}
 use Rattle.m5_network.specs.Run.{Network, Place, IsSite, NextAsk, Licence, IsLicensed, source_kind, IsAtRest, Step, Run}
-use Rattle.m5_sound.specs.Settings.{setting, Grows}
-use Rattle.m5_sound.specs.Sites.{SiteTyped, NextTyped}
+use Rattle.m5_site_sound.specs.Settings.{setting, Grows}
+use Rattle.m5_site_sound.specs.Sites.{SiteTyped, NextTyped}
 use Rattle.m5_sound.specs.Networks.{NetworkTyped, ComesTo, moved}
-use Rattle.m5_sound.specs.SourceMachine.{IsLawful, source_machine}
+use Rattle.m5_site_sound.specs.SourceMachine.{IsLawful, source_machine}
 use Rattle.m5_sound.specs.Numbers.{BoardNumbered, counts_of}
-use Rattle.m5_sound.specs.Texts.{SiteHasTexts, DeedHasTexts, ActHasTexts, BoardHasTexts, LinkHasTexts}
+use Rattle.m5_site_sound.specs.Texts.{SiteHasTexts}
+use Rattle.m5_sound.specs.Texts.{DeedHasTexts, ActHasTexts, BoardHasTexts, LinkHasTexts}
 
--- what a typed site does next is a step to a typed site or a typed ask
-abbrev pub TypedSitesGoOn : Type 0
-TypedSitesGoOn = (P : Program) (L : CellTypes) (u : World) (x : Site) → IsProgram P → u ≢ Any → SiteTyped (setting P L) u x → NextTyped (setting P L) u (site_next P u x)
-
--- and no lawful answers ever lead it to where the rules allow nothing
-abbrev pub TypedSitesAreSound : Type 0
-TypedSitesAreSound = (P : Program) (L : CellTypes) (w : World) (s : Site) → IsProgram P → w ≢ Any → SiteTyped (setting P L) w s → IsSound (source_machine P w) s
-
--- so it is with each site of a program's opening
+-- no lawful answers ever lead a site of a program's opening to where the rules allow nothing
 abbrev pub OpeningIsSound : Type 0
 OpeningIsSound = (P : Program) (S : Scenario) (s : ℕ) (w : World) → IsProgram P → IsScript S → w ≢ Any → IsSound (source_machine P w) ((opening P S).site s w)
 

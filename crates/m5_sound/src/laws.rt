@@ -1,18 +1,8 @@
 //! The laws of typed runs, each on a function that does nothing.
 
-ghost use Rattle.m5_sound.specs.Laws.{TypedSitesGoOn, TypedSitesAreSound, OpeningIsSound, OpeningIsTyped, RunsKeepTypes, AllStaysTyped, EachThreadGoesOn, NoSiteGoesWrong, SomethingCanHappen, PrimitivesAreAtTheirWorlds, TextsStayTexts, Stops, own_stops, NumbersStayRight, AnswersAreLawful};
+ghost use Rattle.m5_sound.specs.Laws.{OpeningIsSound, OpeningIsTyped, RunsKeepTypes, AllStaysTyped, EachThreadGoesOn, NoSiteGoesWrong, SomethingCanHappen, PrimitivesAreAtTheirWorlds, TextsStayTexts, Stops, own_stops, NumbersStayRight, AnswersAreLawful};
 
-/// A typed site's next step or ask is typed.
-pub fn typed_sites_go_on_holds()
-    ensures { TypedSitesGoOn }
-{}
-
-/// No lawful answers lead a typed site to where the rules allow nothing.
-pub fn typed_sites_are_sound_holds()
-    ensures { TypedSitesAreSound }
-{}
-
-/// So it is with each site of a program's opening.
+/// No lawful answers lead a site of a program's opening to where the rules allow nothing.
 pub fn opening_is_sound_holds()
     ensures { OpeningIsSound }
 {}

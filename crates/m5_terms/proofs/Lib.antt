@@ -1,4 +1,6 @@
 pub mod Lists
 pub mod SiteWorlds
-pub mod Diagrams
-pub mod Passes
+pub mod Matched
+pub mod Lifted
+pub mod Chained
+pub mod Played

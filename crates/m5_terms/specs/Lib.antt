@@ -12,6 +12,8 @@ pub mod Worlds
 pub mod Seal
 pub mod Text
 pub mod Machine
-pub mod Keeping
-pub mod Diagram
+pub mod Matching
+pub mod Playing
+pub mod Related
+pub mod Answers
 pub mod CountsDown
