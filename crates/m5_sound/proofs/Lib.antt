@@ -1,14 +1,7 @@
-pub mod Growth
-pub mod Parts
-pub mod TextBytes
-pub mod Canonical
-pub mod Reductions
-pub mod Replies
-pub mod Steps
 pub mod Boards
-pub mod SiteTexts
 pub mod Networks
-pub mod Soundness
 pub mod AllTexts
-pub mod Counts
 pub mod Progress
+pub mod Places
+pub mod Numbers
+pub mod Holding

@@ -29,31 +29,21 @@ use Rattle.m5_network.specs.Claim.{has_seal, primitive_of, IsAtItsWorld}
 use Rattle.m5_network.specs.Opening.{opening, opening_site, opening_threads, happening}
 use Rattle.m5_network.specs.Kinds.{NetworkOf, IsStoppedBy, MakesDeed, StepOf, RunOf}
 use Rattle.m5_network.specs.Run.{Network, Place, NextAsk, Answers, Licence, IsLicensed, halted, source_kind, Run, with_site}
-use Rattle.m5_sound.specs.Settings.{setting, Grows, GrowsAt}
-use Rattle.m5_sound.specs.Threads.{ThreadTyped}
-use Rattle.m5_sound.specs.Sites.{SiteTyped, ItemTyped, QueryTyped, ReplyTyped, AnswersTyped, NextTyped}
-use Rattle.m5_sound.specs.Texts.{ReplyHasTexts, DeedHasTexts}
+use Rattle.m5_site_sound.specs.Settings.{setting, Grows, GrowsAt}
+use Rattle.m5_site_sound.specs.Threads.{ThreadTyped}
+use Rattle.m5_site_sound.specs.Sites.{SiteTyped, ItemTyped, QueryTyped, ReplyTyped, AnswersTyped, NextTyped}
+use Rattle.m5_site_sound.specs.Texts.{ReplyHasTexts}
+use Rattle.m5_sound.specs.Texts.{DeedHasTexts}
 use Rattle.m5_sound.specs.Networks.{NetworkTyped, ComesTo}
-use Rattle.m5_sound.specs.Laws.{PrimitivesAreAtTheirWorlds, OpeningIsTyped, RunsKeepTypes, AllStaysTyped, EachThreadGoesOn, NoSiteGoesWrong}
+use Rattle.m5_sound.specs.Laws.{PrimitivesAreAtTheirWorlds, OpeningIsTyped, OpeningIsSound, RunsKeepTypes, AllStaysTyped, EachThreadGoesOn, NoSiteGoesWrong}
 use Rattle.m5_terms.proofs.SiteWorlds.{by-world, is-real}
 use Rattle.m5_terms.proofs.Lists.{each-map}
-use Rattle.m5_sound.proofs.Growth.{more, grows-self, grows-on, own-self, own-on, site-grown}
-use Rattle.m5_sound.proofs.Steps.{next-typed, declares}
+use Rattle.m5_site_sound.proofs.Growth.{more, grows-self, grows-on, own-self, own-on, site-grown}
+use Rattle.m5_site_sound.proofs.Steps.{next-typed, declares}
+use Rattle.m5_site_sound.proofs.Onward.{SiteComes, comes-typed, some-inj, not-wrong}
+use Rattle.m5_site_sound.proofs.Soundness.{sites-are-sound}
 use Rattle.m5_sound.proofs.Boards.{BoardTyped, AnswerTyped, at-each, answer-typed, answer-kind, board-grown}
-use Rattle.m5_sound.proofs.SiteTexts.{query-texts, reply-texts}
-
--- what a typed site comes to by local steps
-pub record SiteComes (P : Program) (L : CellTypes) (w : World) (x : Site) : Type 0 where
-  pub to : CellTypes
-  pub grows : GrowsAt w L to
-  pub typed : SiteTyped (setting P to) w x
-
-pub comes-typed : (P : Program) (L : CellTypes) (w : World) (n : ℕ) (s x : Site) → IsProgram P → w ≢ Any → SiteTyped (setting P L) w s → Comes (site_next P w) n s x → SiteComes P L w x
-comes-typed P L w zero s x h r t c = record { to = L; grows = own-self w L; typed = subst (λ y. SiteTyped (setting P L) w y) c t }
-comes-typed P L w (suc n) s x h r t c =
-    let k = subst (λ y. NextTyped (setting P L) w y) c.1 (next-typed P (setting P L) w s (declares P L h) r t) in
-    let d = comes-typed P k.cells w n c.0 x h r k.typed c.2 in
-    record { to = d.to; grows = own-on w L k.cells d.to k.grows d.grows; typed = d.typed }
+use Rattle.m5_site_sound.proofs.SiteTexts.{query-texts, reply-texts}
 
 board-of : (P : Program) (T : ℕ → CellTypes) (N : Network) → NetworkTyped P T N → BoardTyped P T N.board
 board-of P T N t = record { pairs = t.texts.pairs; watches = t.texts.watches; desks = λ s. record { links = t.links s; texts = t.texts.desks s } }
@@ -105,9 +95,6 @@ pub record StepTyped (P : Program) (T : ℕ → CellTypes) (d : Deed Item) (M : 
 
 grows-one : (T : ℕ → CellTypes) (s : ℕ) (L : CellTypes) → Grows (T s) L → (z : ℕ) → Grows (T z) (at_session s L T z)
 grows-one T s L g z = at-each (λ z K. Grows (T z) K) s L T g (λ z. grows-self (T z)) z
-
-pub some-inj : (a b : Site) → Some a ≡ Some b → a ≡ b
-some-inj a b e = cc
 
 -- a typed site's next ask, and the board's answer to it
 pub record Asked (P : Program) (T : ℕ → CellTypes) (N : Network) (s : ℕ) (w : World) (q : AskOf Item) (resume : AnswerOf Item → Option Site) : Type 0 where
@@ -239,6 +226,9 @@ opening-is-typed P S h k = record {
     IsTold : Happening → Type 0
     IsTold e = IsText e.element × IsText e.text
 
+pub opening-is-sound : OpeningIsSound
+opening-is-sound P S s w h k r = sites-are-sound P (λ v. []) w _ h r ((opening-is-typed P S h k).sites s w r)
+
 -- what a site comes to along a run
 
 pub record Reached (P : Program) (s : ℕ) (w : World) (x : Site) (ds : List (Deed Item)) (N : Network) : Type 0 where
@@ -258,11 +248,6 @@ pub all-stays : AllStaysTyped
 all-stays P S ps ds N s w x c =
     let k = reached P S ps ds N s w x c in
     (at_session s k.comes.to k.of, placed P k.of N s w k.comes.to x N.board k.comes.grows k.comes.typed k.network (board-grown P k.of s k.comes.to N.board k.comes.grows.0 (board-of P k.of N k.network)))
-
-pub not-wrong : (E : Setting) (u : World) (x : SiteNext) → NextTyped E u x → x ≢ wrong
-not-wrong E u (goes s) t e = cc
-not-wrong E u (asks q f) t e = cc
-not-wrong E u wrong t e = t.typed
 
 pub no-wrong : NoSiteGoesWrong
 no-wrong P S ps ds N s w x c =
