@@ -1,26 +1,53 @@
 #!/usr/bin/env bash
-# Runs every example with the built program and compares its trace or refusal.
-# An example is NAME.ml5 with NAME.script beside it, and NAME.trace (job run, or the job that NAME.job names) or NAME.refusal.
+# Runs every example and every row of the tables with the built program, and compares what is written and the status.
+# An example is NAME.ml5 with NAME.script beside it, and NAME.trace (job run, or the job that NAME.job names) or NAME.refusal;
+# its status is the one that goes with its last line. examples/tables/README.md says how a table is written.
 set -u
 cd "$(dirname "$0")/.." || exit 1
 program=crates/ml5/out/ml5
 [ -x "$program" ] || { echo "examples: $program is not built"; exit 1; }
+written=$(mktemp) || exit 1
+trap 'rm -f "$written"' EXIT
+
+# The status that goes with the last line of what is written.
+status_of() {
+  case $(tail -n 1 "$1") in
+    accepted | rest) echo 0 ;;
+    'refused byte '* | 'refused number '* | 'refused syntax '* | 'refused deep '*) echo 4 ;;
+    'refused script '*) echo 6 ;;
+    'refused memory') echo 7 ;;
+    'refused long') echo 8 ;;
+    'stopped '*) echo 10 ;;
+    'refused unbuilt') echo 11 ;;
+    'refused '*) echo 5 ;;
+    *) echo none ;;
+  esac
+}
+
+# Prints how an example differs, or nothing.
+compare() {
+  local name=$1 job=run wanted=$1.trace status
+  [ -e "$name.job" ] && job=$(cat "$name.job")
+  [ -e "$wanted" ] || wanted=$name.refusal
+  [ -e "$wanted" ] || { echo "$name has neither trace nor refusal"; return; }
+  { cat "$name.ml5"; printf '%%%%\n'; [ -e "$name.script" ] && cat "$name.script"; } | "$program" "$job" > "$written" 2>/dev/null
+  status=${PIPESTATUS[1]}
+  cmp -s "$written" "$wanted" || echo "$name differs from $wanted"
+  [ "$status" = "$(status_of "$wanted")" ] || echo "$name ends with status $status, and not $(status_of "$wanted")"
+}
+
 passed=0
 failed=0
-for source in examples/*.ml5 examples/tutorial/*.ml5 examples/refused/*.ml5; do
+for source in examples/*.ml5 examples/*/*.ml5; do
   [ -e "$source" ] || continue
-  name=${source%.ml5}
-  job=run
-  [ -e "$name.job" ] && job=$(cat "$name.job")
-  wanted=$name.trace
-  [ -e "$wanted" ] || wanted=$name.refusal
-  [ -e "$wanted" ] || { echo "examples: $name has neither trace nor refusal"; failed=$((failed + 1)); continue; }
-  if { cat "$source"; printf '%%%%\n'; [ -e "$name.script" ] && cat "$name.script"; } | "$program" $job 2>/dev/null | cmp -s - "$wanted"; then
+  differs=$(compare "${source%.ml5}")
+  if [ -z "$differs" ]; then
     passed=$((passed + 1))
   else
-    echo "examples: $name differs from $wanted"
+    printf 'examples: %s\n' "$differs"
     failed=$((failed + 1))
   fi
 done
 echo "examples: $passed passed, $failed failed"
+python3 tools/tables.py "$program" examples/tables/*.table || failed=$((failed + 1))
 [ "$failed" -eq 0 ] && [ "$passed" -gt 0 ]

@@ -8,5 +8,3 @@ mod desks;
 pub mod link;
 mod pairs;
 pub mod rows;
-#[cfg(test)]
-mod tests;

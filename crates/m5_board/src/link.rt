@@ -5,7 +5,7 @@ ghost use Rattle.m5_source_site.specs.Waits.{item_of};
 ghost use Rattle.m5_board.specs.BoardLists.{links_to, with_links_to, TakesLink};
 
 use m5_source_site::query::SiteItem;
-use m5_source_site::queue::Queue;
+use m5_terms::queue::Queue;
 use m5_terms::types::World;
 use std::alloc::{AllocError, Global};
 use std::marker::Model;

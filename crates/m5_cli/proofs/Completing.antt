@@ -27,7 +27,7 @@ not_bad input text b s = let bad = b.script in let says = s.script in cc
 not_too_long : (input : List ℕ) → input_limit < length input → HasProgram input → ⊥
 not_too_long input long p = let short = p.short in omega arith
 
-pub due_completes : (j : Job) (input : List ℕ) (s : Status) (text : List ℕ) → Due j input s text → Takes j input → Completes j s
+pub due_completes : (j : Job) (input : List ℕ) (s : Status) (text : List ℕ) → Due s j input text → Takes j input → Completes j s
 due_completes j input status.Rest text d t = tt
 due_completes job.Check input status.Stopped text d t = d
 due_completes job.Run input status.Stopped text d t = d
@@ -44,4 +44,6 @@ due_completes j input status.TooLong text d t = absurd (not_too_long input d.0 (
 due_completes j input status.NoMemory text d t = tt
 due_completes j input status.ReadFault text d t = tt
 due_completes j input status.WriteFault text d t = tt
-due_completes j input status.Usage text d t = absurd d
+due_completes job.Check input status.Usage text d t = absurd d
+due_completes job.Run input status.Usage text d t = absurd d
+due_completes job.Ref input status.Usage text d t = absurd d

@@ -11,12 +11,12 @@ use Rattle.m5_cli.specs.declared.status.Status.{Status}
 use Rattle.m5_cli.specs.declared.status.Status.TheVariants as status
 
 -- the reference's trace is due with the status with which its run ends
-reference_due : (input text : List ℕ) (meant : Status) → IsReferenceOf meant input text → Due job.Ref input meant text
+reference_due : (input text : List ℕ) (meant : Status) → IsReferenceOf meant input text → Due meant job.Ref input text
 reference_due input text status.Rest r = r
 reference_due input text status.Stopped r = r
 reference_due input text _ r = absurd r.runs.ends
 
 -- the same of an answer, if there is one
-pub answered : (input : List ℕ) (given : HasScript input) (r : Result Answer AllocError) → IfOk r (λ a. IsReferenceTrace a.status given.program given.scenario a.text) → IfOk r (λ a. Due job.Ref input a.status a.text)
+pub answered : (input : List ℕ) (given : HasScript input) (r : Result Answer AllocError) → IfOk r (λ a. IsReferenceTrace a.status given.program given.scenario a.text) → IfOk r (λ a. Due a.status job.Ref input a.text)
 answered input given (Ok a) h = reference_due input a.text a.status (record { given = given; runs = h })
 answered input given (Err e) h = tt

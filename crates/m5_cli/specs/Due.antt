@@ -1,4 +1,4 @@
--- What is due for a job and an input: the status, and the text that is written with it.
+-- What is due for a job and an input: the text that is written with each status.
 use Rattle.std.specs.Prelude.{◌≡◌, ◌<◌, ℕ, List, length, codes}
 use Rattle.m5_cli.specs.Cases.{IsBadScript, IsChecked, IsReferenceOf, IsRefusal, IsTraceOf, IsUnbuilt}
 use Rattle.m5_cli.specs.Taken.{input_limit}
@@ -7,41 +7,21 @@ use Rattle.m5_cli.specs.declared.words.Job.TheVariants as job
 use Rattle.m5_cli.specs.declared.status.Status.{Status}
 use Rattle.m5_cli.specs.declared.status.Status.TheVariants as status
 
--- a job's output, where no site stopped
-abbrev pub Output : Job → List ℕ → List ℕ → Type 0
-Output job.Check input text = IsChecked input text
-Output job.Run input text = IsTraceOf input text
-Output job.Ref input text = IsReferenceOf status.Rest input text
-
--- sites stop in reference runs alone
-abbrev pub StoppedFor : Job → List ℕ → List ℕ → Type 0
-StoppedFor job.Check input text = ⊥
-StoppedFor job.Run input text = ⊥
-StoppedFor job.Ref input text = IsReferenceOf status.Stopped input text
-
--- `run` alone takes less than it accepts today
-abbrev pub UnbuiltFor : Job → List ℕ → List ℕ → Type 0
-UnbuiltFor job.Check input text = ⊥
-UnbuiltFor job.Run input text = IsUnbuilt input text
-UnbuiltFor job.Ref input text = ⊥
-
--- `check` ignores the script
-abbrev pub BadScriptFor : Job → List ℕ → List ℕ → Type 0
-BadScriptFor job.Check input text = ⊥
-BadScriptFor job.Run input text = IsBadScript input text
-BadScriptFor job.Ref input text = IsBadScript input text
-
--- what is due with each status; want of memory alone may come at any input
-abbrev pub Due : Job → List ℕ → Status → List ℕ → Type 0
-Due job input status.Rest text = Output job input text
-Due job input status.Stopped text = StoppedFor job input text
-Due job input status.BadText text = IsRefusal status.BadText input text
-Due job input status.BadTypes text = IsRefusal status.BadTypes input text
-Due job input status.BadScript text = BadScriptFor job input text
-Due job input status.Unbuilt text = UnbuiltFor job input text
-Due job input status.TooLong text = (input_limit < length input) × (text ≡ codes "refused long\n")
-Due job input status.NoMemory text = text ≡ codes "refused memory\n"
-Due job input _ text = ⊥
+-- the text that is due with a status, by job: sites stop in reference runs alone, `check` ignores the script, `run` alone
+-- takes less than it accepts today, and want of memory alone may come at any input
+abbrev pub Due : Status → Job → List ℕ → List ℕ → Type 0
+Due status.Rest job.Check input text = IsChecked input text
+Due status.Rest job.Run input text = IsTraceOf input text
+Due status.Rest job.Ref input text = IsReferenceOf status.Rest input text
+Due status.Stopped job.Ref input text = IsReferenceOf status.Stopped input text
+Due status.Unbuilt job.Run input text = IsUnbuilt input text
+Due status.BadScript job.Run input text = IsBadScript input text
+Due status.BadScript job.Ref input text = IsBadScript input text
+Due status.BadText job input text = IsRefusal status.BadText input text
+Due status.BadTypes job input text = IsRefusal status.BadTypes input text
+Due status.TooLong job input text = (input_limit < length input) × (text ≡ codes "refused long\n")
+Due status.NoMemory job input text = text ≡ codes "refused memory\n"
+Due _ _ _ _ = ⊥
 
 -- the words are no listed spelling: their line is due, and nothing else
 abbrev pub usage_line : List ℕ

@@ -19,13 +19,13 @@ Finishes old new meant text result = ((result ≡ meant) × Appends old new text
 
 -- the sink took all of what is due for the input with this status
 abbrev pub TookDue : Job → Option (List ℕ) → Option (List ℕ) → List ℕ → Status → Type 0
-TookDue job old new input s = (text : List ℕ) × Due job input s text × Appends old new text
+TookDue job old new input s = (text : List ℕ) × Due s job input text × Appends old new text
 
 -- what a job over this input leaves in the sink: after a read fault nothing new, after a write fault a proper prefix of what
 -- is due with some status, else all that is due with the status answered
 abbrev pub Leaves : Job → Option (List ℕ) → Option (List ℕ) → List ℕ → Status → Type 0
 Leaves job old new input status.ReadFault = Keeps old new
-Leaves job old new input status.WriteFault = (meant : Status) × (text : List ℕ) × Due job input meant text × TookSome old new text
+Leaves job old new input status.WriteFault = (meant : Status) × (text : List ℕ) × Due meant job input text × TookSome old new text
 Leaves job old new input s = TookDue job old new input s
 
 -- an input that a job takes: its program is accepted, and its script too where the job reads one

@@ -1,6 +1,7 @@
 pub mod Cases
 pub mod Due
 pub mod First
+pub mod Headline
 pub mod Input
 pub mod Leaves
 pub mod Reference

@@ -29,7 +29,7 @@ fn refused(alloc: Global, job: Job, input: &[u8], refusal: Refusal) -> Result<An
     requires short { length input.now ≤ input_limit }
     requires cause { HasFault (parts_of input.now).program refusal.fault refusal.place }
     requires not_accepted { (tree : TreeOf) (raw : RawTerm) (program : ProgramTerm) → Accepts input.now tree raw program → ⊥ }
-    ensures { IfOk result (λ answer. Due job input.now answer.status answer.text) }
+    ensures { IfOk result (λ answer. Due answer.status job input.now answer.text) }
 {
     Ok(Answer {
         status: fault_status(refusal.fault),
@@ -41,7 +41,7 @@ fn refused(alloc: Global, job: Job, input: &[u8], refusal: Refusal) -> Result<An
 fn checked(alloc: Global, input: &[u8], accepted: &Accepted) -> Result<Answer, AllocError>
     requires short { length input.now ≤ input_limit }
     requires accepted { Accepts input.now accepted.now.tree accepted.now.raw accepted.now.program }
-    ensures { IfOk result (λ answer. Due Job.Check input.now answer.status answer.text) }
+    ensures { IfOk result (λ answer. Due answer.status Job.Check input.now answer.text) }
 {
     Ok(Answer {
         status: Status::Rest,
@@ -85,7 +85,7 @@ fn run_script(
     requires accepted { Accepts input.now accepted.now.tree accepted.now.raw accepted.now.program }
     requires text { text.now ≡ (parts_of input.now).script }
     requires script { SaysScript input.now script.now }
-    ensures { IfOk result (λ answer. Due Job.Run input.now answer.status answer.text) }
+    ensures { IfOk result (λ answer. Due answer.status Job.Run input.now answer.text) }
 {
     match first_trace(alloc, accepted, text, script)? {
         Some(text) => Ok(Answer {
@@ -105,7 +105,7 @@ fn run(alloc: Global, input: &[u8], accepted: &Accepted, text: &[u8]) -> Result<
     requires accepted { Accepts input.now accepted.now.tree accepted.now.raw accepted.now.program }
     requires text { text.now ≡ (parts_of input.now).script }
     requires within { length text.now ≤ length input.now }
-    ensures { IfOk result (λ answer. Due Job.Run input.now answer.status answer.text) }
+    ensures { IfOk result (λ answer. Due answer.status Job.Run input.now answer.text) }
 {
     match script_in(alloc, input, accepted, text)? {
         Ok(script) => run_script(alloc, input, accepted, text, &script),
@@ -124,7 +124,7 @@ fn reference(
     requires accepted { Accepts input.now accepted.now.tree accepted.now.raw accepted.now.program }
     requires text { text.now ≡ (parts_of input.now).script }
     requires within { length text.now ≤ length input.now }
-    ensures { IfOk result (λ answer. Due Job.Ref input.now answer.status answer.text) }
+    ensures { IfOk result (λ answer. Due answer.status Job.Ref input.now answer.text) }
 {
     match script_in(alloc, input, accepted, text)? {
         Ok(script) => reference_trace(alloc, &accepted.program, &script),
@@ -135,7 +135,7 @@ fn reference(
 /// What a job owes for an input.
 pub(crate) fn due(alloc: Global, job: Job, input: &[u8]) -> Result<Answer, AllocError>
     requires { length input.now ≤ input_limit }
-    ensures { IfOk result (λ answer. Due job input.now answer.status answer.text) }
+    ensures { IfOk result (λ answer. Due answer.status job input.now answer.text) }
 {
     let (text, script) = split(input);
     let accepted = match read_program(alloc, text) {

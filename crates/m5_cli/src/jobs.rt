@@ -4,6 +4,7 @@ ghost use Rattle.std.specs.Prelude.{◌≡◌, ◌≢◌, ◌≤◌, ◌⊎◌, 
 ghost use Rattle.std.specs.Io.KnownBytes.{Keeps};
 ghost use Rattle.m5_base.specs.Causes.{Rose};
 ghost use Rattle.m5_cli.specs.Due.{Due};
+ghost use Rattle.m5_cli.specs.Headline.{Headline};
 ghost use Rattle.m5_cli.specs.Leaves.{Completes, Finishes, Leaves, Takes};
 ghost use Rattle.m5_cli.specs.Taken.{input_limit};
 ghost use Rattle.m5_cli.specs.declared.words.Job.{Job as JobOf};
@@ -22,8 +23,8 @@ const INPUT_LIMIT: u64 = 262_144;
 /// Writes what is due with a status, and answers that status, or the sink's failure.
 pub fn finish<K: Sink>(sink: &mut K, status: Status, due: &[u8]) -> Status
     ensures finishes { Finishes (K.held sink.old) (K.held sink.new) status due.now result }
-    ensures leaves { (job : JobOf) (input : List ℕ) → Due job input status due.now → Leaves job (K.held sink.old) (K.held sink.new) input result }
-    ensures complete { (job : JobOf) (input : List ℕ) → Due job input status due.now → Takes job input → Completes job result }
+    ensures leaves { (job : JobOf) (input : List ℕ) → Due status job input due.now → Leaves job (K.held sink.old) (K.held sink.new) input result }
+    ensures complete { (job : JobOf) (input : List ℕ) → Due status job input due.now → Takes job input → Completes job result }
     ensures fault { result ≡ Status.WriteFault → (status ≡ Status.WriteFault) ⊎ Rose (K.faults sink.old) (K.faults sink.new) }
     ensures later { K.faults sink.old ≤ K.faults sink.new }
 {
@@ -60,12 +61,12 @@ fn answer<K: Sink>(alloc: Global, job: Job, input: &[u8], sink: &mut K) -> Statu
 /// ran out. So an accepted program, with a script where the job reads one, is answered with the job's output, or by a
 /// fault, `NoMemory` or, of `run`, `Unbuilt`.
 pub fn plain<S: Source, K: Sink>(alloc: Global, job: Job, source: &mut S, sink: &mut K) -> Status
-    ensures leaves { IfSome (S.left source.old) (λ input. Leaves job (K.held sink.old) (K.held sink.new) input result) }
-    ensures complete { IfSome (S.left source.old) (λ input. Takes job input → Completes job result) }
-    ensures read_fault { result ≡ Status.ReadFault → Rose (S.faults source.old) (S.faults source.new) }
-    ensures nothing { result ≡ Status.ReadFault → Keeps (K.held sink.old) (K.held sink.new) }
-    ensures write_fault { result ≡ Status.WriteFault → Rose (K.faults sink.old) (K.faults sink.new) }
-    ensures no_usage { result ≢ Status.Usage }
+    ensures {
+        Headline job
+            (record { left = S.left source.old; held = K.held sink.old; read_faults = S.faults source.old; write_faults = K.faults sink.old })
+            (record { left = S.left source.new; held = K.held sink.new; read_faults = S.faults source.new; write_faults = K.faults sink.new })
+            result
+    }
 {
     match read_all(alloc, source, INPUT_LIMIT) {
         Err(ReadEnd::Failed) => Status::ReadFault,

@@ -16,6 +16,3 @@ pub use jobs::plain;
 pub use status::Status;
 pub use top::ml5;
 pub use words::{Job, Words, read_words};
-
-#[cfg(test)]
-mod tests;

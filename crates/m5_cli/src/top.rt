@@ -1,12 +1,6 @@
 //! The top call: from the words of the command line to the status.
 
-ghost use Rattle.std.specs.Prelude.{◌≡◌, ◌≤◌, IfSome, None, Some};
-ghost use Rattle.std.specs.Io.KnownBytes.{Keeps};
-ghost use Rattle.m5_base.specs.Causes.{Rose};
-ghost use Rattle.m5_cli.specs.Due.{usage_line};
-ghost use Rattle.m5_cli.specs.Leaves.{Completes, Finishes, Leaves, Takes};
-ghost use Rattle.m5_cli.specs.Words.{job_of};
-ghost use Rattle.m5_cli.specs.declared.words.Job.{Job};
+ghost use Rattle.m5_cli.specs.Headline.{HeadlineOf};
 
 use crate::jobs::{finish, plain};
 use crate::status::Status;
@@ -29,15 +23,12 @@ pub fn ml5<R: Threads + Wait + Sync, S: Source, K: Sink, G: Gate + Sync>(
     sink: &mut K,
     _gate: &G,
 ) -> Status
-    ensures usage { job_of words.now ≡ None → Finishes (K.held sink.old) (K.held sink.new) Status.Usage usage_line result }
-    ensures usage_only { result ≡ Status.Usage → job_of words.now ≡ None }
-    ensures leaves { (job : Job) → job_of words.now ≡ Some job
-        → IfSome (S.left source.old) (λ input. Leaves job (K.held sink.old) (K.held sink.new) input result) }
-    ensures complete { (job : Job) → job_of words.now ≡ Some job
-        → IfSome (S.left source.old) (λ input. Takes job input → Completes job result) }
-    ensures read_fault { result ≡ Status.ReadFault → Rose (S.faults source.old) (S.faults source.new) }
-    ensures nothing { result ≡ Status.ReadFault → Keeps (K.held sink.old) (K.held sink.new) }
-    ensures write_fault { result ≡ Status.WriteFault → Rose (K.faults sink.old) (K.faults sink.new) }
+    ensures {
+        HeadlineOf words.now
+            (record { left = S.left source.old; held = K.held sink.old; read_faults = S.faults source.old; write_faults = K.faults sink.old })
+            (record { left = S.left source.new; held = K.held sink.new; read_faults = S.faults source.new; write_faults = K.faults sink.new })
+            result
+    }
 {
     match read_words(words) {
         Some(job) => plain(alloc, job, source, sink),

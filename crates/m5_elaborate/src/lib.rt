@@ -12,6 +12,4 @@ mod pairs;
 mod parts;
 mod size;
 mod synthesis;
-#[cfg(test)]
-mod tests;
 mod value_form;

@@ -1,4 +1,4 @@
--- How a program text is read.
+-- How the tokens of a program are read, and a program text.
 use Rattle.std.specs.Prelude.{◌≡◌, ℕ, List, Result, Ok, Err}
 use Rattle.m5_lex.specs.Lexed.{lexed}
 use Rattle.m5_lex.specs.Tokens.{Listing}
@@ -15,24 +15,28 @@ use Rattle.m5_front.specs.declared.program.Read.{Read}
 use Rattle.m5_front.specs.declared.refusal.FrontEnd.{FrontEnd}
 use Rattle.m5_front.specs.declared.refusal.FrontEnd.TheVariants.{Memory, Refused}
 
--- the text has tokens, and they are a program's with this tree, none of them deeper than the limit
-pub record HasTree (text : List ℕ) (tree : Tree) : Type 0 where
-  pub listing : Listing
-  pub tokens : lexed text ≡ Ok listing
+-- the tokens are a program's with this tree, none of them deeper than the limit
+pub record HasTree (listing : Listing) (tree : Tree) : Type 0 where
   pub program : IsProgram listing.tokens tree
   pub level : NoneDeep listing.tokens 0
 
--- the text has a tree, and the names of that are resolved
-pub record IsRead (text : List ℕ) (tree : Tree) (raw : RawTerm) : Type 0 where
-  pub has_tree : HasTree text tree
+-- the tokens have a tree, and the names of that are resolved
+pub record IsRead (listing : Listing) (tree : Tree) (raw : RawTerm) : Type 0 where
+  pub has_tree : HasTree listing tree
   pub resolved : tree_resolved tree.names tree.program ≡ found raw
 
--- the text has a tree whose names are resolved, and the types of that are found
-pub record IsAccepted (text : List ℕ) (tree : Tree) (raw : RawTerm) (program : ProgramTerm) : Type 0 where
-  pub read : IsRead text tree raw
+-- the tokens have a tree whose names are resolved, and the types of that are found
+pub record AreAccepted (listing : Listing) (tree : Tree) (raw : RawTerm) (program : ProgramTerm) : Type 0 where
+  pub read : IsRead listing tree raw
   pub typed : elaborated raw ≡ typing.found program
 
--- memory is wanting, and the text is not refused
+-- the text has tokens, and these are accepted
+pub record IsAccepted (text : List ℕ) (tree : Tree) (raw : RawTerm) (program : ProgramTerm) : Type 0 where
+  pub listing : Listing
+  pub tokens : lexed text ≡ Ok listing
+  pub accepted : AreAccepted listing tree raw program
+
+-- memory is wanting, and nothing is refused
 abbrev pub IsNoRefusal : FrontEnd → Type 0
 IsNoRefusal Memory = Unit {0}
 IsNoRefusal (Refused r) = ⊥

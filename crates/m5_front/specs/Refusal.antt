@@ -20,43 +20,50 @@ use Rattle.m5_front.specs.declared.refusal.Fault.TheVariants.{Byte, Number, Synt
 use Rattle.m5_front.specs.declared.refusal.FrontEnd.{FrontEnd}
 use Rattle.m5_front.specs.declared.refusal.FrontEnd.TheVariants.{Memory, Refused}
 
--- the tokens are no program: the first of them that no program has there, or the text's end
-pub record HasSyntaxFault (text : List ℕ) (at : Place) : Type 0 where
-  pub listing : Listing
-  pub tokens : lexed text ≡ Ok listing
-  pub fault : IsSyntaxFault listing.tokens listing.ending at
-
--- the first token that is too deep
-pub record HasDeepFault (text : List ℕ) (at : Place) : Type 0 where
-  pub listing : Listing
-  pub tokens : lexed text ≡ Ok listing
-  pub fault : IsDeepFault listing.tokens at
-
--- the names of the text's tree have this first fault
-pub record HasScopeFault (text : List ℕ) (end : ScopeEnd) : Type 0 where
+-- the names of the tokens' tree have this first fault
+pub record HasScopeFault (listing : Listing) (end : ScopeEnd) : Type 0 where
   pub tree : Tree
-  pub read : HasTree text tree
+  pub read : HasTree listing tree
   pub fault : tree_resolved tree.names tree.program ≡ fault end
 
--- the types of the text's resolved program have this first fault
-pub record HasTypeFault (text : List ℕ) (end : TypeEnd) : Type 0 where
+-- the types of the tokens' resolved program have this first fault
+pub record HasTypeFault (listing : Listing) (end : TypeEnd) : Type 0 where
   pub tree : Tree
   pub raw : RawTerm
-  pub read : IsRead text tree raw
+  pub read : IsRead listing tree raw
   pub fault : elaborated raw ≡ typing.fault end
 
+-- what is wrong with tokens: the first that no program has there, or the text's end; the first that is too deep; the first
+-- fault of their tree's names, or of its types
+abbrev pub HaveFault : Listing → Fault → Place → Type 0
+HaveFault listing Byte at = ⊥
+HaveFault listing Number at = ⊥
+HaveFault listing Syntax at = IsSyntaxFault listing.tokens listing.ending at
+HaveFault listing Deep at = IsDeepFault listing.tokens at
+HaveFault listing TooMany at = HasScopeFault listing (scope.TooMany at)
+HaveFault listing Unbound at = HasScopeFault listing (scope.Unbound at)
+HaveFault listing Repeated at = HasScopeFault listing (scope.Repeated at)
+HaveFault listing BadExtern at = HasScopeFault listing (scope.BadExtern at)
+HaveFault listing (Types kind) at = HasTypeFault listing (types.Refused kind at)
+
+-- the text has tokens, and these have the fault
+pub record HasLaterFault (text : List ℕ) (fault : Fault) (at : Place) : Type 0 where
+  pub listing : Listing
+  pub tokens : lexed text ≡ Ok listing
+  pub later : HaveFault listing fault at
+
+-- what is wrong with a text: its first bad byte or number, else what is wrong with its tokens
 abbrev pub HasFault : List ℕ → Fault → Place → Type 0
 HasFault text Byte at = lexed text ≡ Err (bad_byte at)
 HasFault text Number at = lexed text ≡ Err (bad_number at)
-HasFault text Syntax at = HasSyntaxFault text at
-HasFault text Deep at = HasDeepFault text at
-HasFault text TooMany at = HasScopeFault text (scope.TooMany at)
-HasFault text Unbound at = HasScopeFault text (scope.Unbound at)
-HasFault text Repeated at = HasScopeFault text (scope.Repeated at)
-HasFault text BadExtern at = HasScopeFault text (scope.BadExtern at)
-HasFault text (Types kind) at = HasTypeFault text (types.Refused kind at)
+HasFault text fault at = HasLaterFault text fault at
 
--- a refusal has its cause; want of memory may come at any time
+-- a refusal of tokens has its cause; want of memory may come at any time
+abbrev pub HaveCause : Listing → FrontEnd → Type 0
+HaveCause listing Memory = Unit {0}
+HaveCause listing (Refused r) = HaveFault listing r.fault r.place
+
+-- a refusal of a text has its cause; want of memory may come at any time
 abbrev pub HasCause : List ℕ → FrontEnd → Type 0
 HasCause text Memory = Unit {0}
 HasCause text (Refused r) = HasFault text r.fault r.place

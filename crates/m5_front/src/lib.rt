@@ -3,5 +3,3 @@
 
 pub mod program;
 pub mod refusal;
-#[cfg(test)]
-mod tests;

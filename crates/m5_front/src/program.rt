@@ -1,12 +1,11 @@
-//! A program text read: tokens, then the tree, then the names, then the types.
+//! A program read: the tokens of a text, their tree, its names, its types.
 
-ghost use Rattle.std.specs.Prelude.{◌≡◌, ◌<◌, length, IfErr, IfOk, Ok};
+ghost use Rattle.std.specs.Prelude.{◌≡◌, ◌<◌, length, IfErr, IfOk};
 ghost use Rattle.m5_raw.specs.RawTerm.{RawTerm};
 ghost use Rattle.m5_tree.specs.declared.tree.Tree.{Tree as TreeOf};
-ghost use Rattle.m5_lex.specs.Lexed.{lexed};
 ghost use Rattle.m5_typing.specs.Program.{ProgramTerm};
-ghost use Rattle.m5_front.specs.Reading.{HasTree, IsRead, IsAccepted, Answers, IsAnswer, IsNoRefusal};
-ghost use Rattle.m5_front.specs.Refusal.{HasCause, refusal_of, type_refusal_of};
+ghost use Rattle.m5_front.specs.Reading.{HasTree, IsRead, AreAccepted, IsAccepted, Answers, IsAnswer, IsNoRefusal};
+ghost use Rattle.m5_front.specs.Refusal.{HasCause, HaveCause, refusal_of, type_refusal_of};
 
 use crate::refusal::{Fault, FrontEnd};
 use m5_elaborate::elaborate::elaborate;
@@ -35,33 +34,13 @@ pub struct Accepted {
     pub program: Program,
 }
 
-/// The tokens of a text.
-fn tokens_of(alloc: Global, text: &[u8]) -> Result<Tokens, FrontEnd>
-    requires { length text.now < 4294967295 }
-    ensures found { IfOk result (λ tokens. lexed text.now ≡ Ok tokens) }
-    ensures refused { IfErr result (HasCause text.now) }
-    ensures accepted { (tree : TreeOf) → HasTree text.now tree → IfErr result IsNoRefusal }
+/// The tree of tokens.
+fn tree_of(alloc: Global, tokens: &Tokens) -> Result<Tree, FrontEnd>
+    ensures found { IfOk result (λ tree. HasTree tokens.now tree) }
+    ensures refused { IfErr result (HaveCause tokens.now) }
+    ensures accepted { (tree : TreeOf) → HasTree tokens.now tree → Answers tree result }
 {
-    match lex(alloc, text) {
-        Ok(tokens) => Ok(tokens),
-        Err(LexEnd::BadByte(place)) => Err(FrontEnd::refused(Fault::Byte, place)),
-        Err(LexEnd::BadNumber(place)) => Err(FrontEnd::refused(Fault::Number, place)),
-        Err(LexEnd::Memory) => Err(FrontEnd::Memory),
-    }
-}
-
-/// The tree of a text.
-fn tree_of(alloc: Global, text: &[u8]) -> Result<Tree, FrontEnd>
-    requires { length text.now < 4294967295 }
-    ensures found { IfOk result (λ tree. HasTree text.now tree) }
-    ensures refused { IfErr result (HasCause text.now) }
-    ensures accepted { (tree : TreeOf) → HasTree text.now tree → Answers tree result }
-{
-    let tokens = match tokens_of(alloc, text) {
-        Ok(tokens) => tokens,
-        Err(end) => return Err(end),
-    };
-    match parse(alloc, &tokens) {
+    match parse(alloc, tokens) {
         Ok(tree) => Ok(tree),
         Err(ParseEnd::Syntax(place)) => Err(FrontEnd::refused(Fault::Syntax, place)),
         Err(ParseEnd::Deep(place)) => Err(FrontEnd::refused(Fault::Deep, place)),
@@ -82,14 +61,13 @@ fn scope_end(end: ScopeEnd) -> FrontEnd
     }
 }
 
-/// The tree of a text and its resolved program.
-fn read_names(alloc: Global, text: &[u8]) -> Result<Read, FrontEnd>
-    requires { length text.now < 4294967295 }
-    ensures found { IfOk result (λ read. IsRead text.now read.tree read.raw) }
-    ensures refused { IfErr result (HasCause text.now) }
-    ensures accepted { (tree : TreeOf) (raw : RawTerm) → IsRead text.now tree raw → IsAnswer tree raw result }
+/// The tree of tokens and its resolved program.
+fn names_of(alloc: Global, tokens: &Tokens) -> Result<Read, FrontEnd>
+    ensures found { IfOk result (λ read. IsRead tokens.now read.tree read.raw) }
+    ensures refused { IfErr result (HaveCause tokens.now) }
+    ensures accepted { (tree : TreeOf) (raw : RawTerm) → IsRead tokens.now tree raw → IsAnswer tree raw result }
 {
-    let tree = match tree_of(alloc, text) {
+    let tree = match tree_of(alloc, tokens) {
         Ok(tree) => tree,
         Err(end) => return Err(end),
     };
@@ -109,16 +87,14 @@ fn type_end(end: TypeEnd) -> FrontEnd
     }
 }
 
-/// The typed program of a text, exactly where the text has tokens, these have a tree within the level of 400, its names
-/// are resolved and its types found; else the first fault: that of bytes and numbers before that of the grammar, that
-/// before one of names, and that before one of types.
-pub fn read_program(alloc: Global, text: &[u8]) -> Result<Accepted, FrontEnd>
-    requires { length text.now < 4294967295 }
-    ensures found { IfOk result (λ a. IsAccepted text.now a.tree a.raw a.program) }
-    ensures refused { IfErr result (HasCause text.now) }
-    ensures accepted { (tree : TreeOf) (raw : RawTerm) (program : ProgramTerm) → IsAccepted text.now tree raw program → IfErr result IsNoRefusal }
+/// The typed program of tokens, exactly where these have a tree within the level of 400, its names are resolved and its
+/// types found; else the first fault: that of the grammar before one of names, and that before one of types.
+pub fn read_tokens(alloc: Global, tokens: &Tokens) -> Result<Accepted, FrontEnd>
+    ensures found { IfOk result (λ a. AreAccepted tokens.now a.tree a.raw a.program) }
+    ensures refused { IfErr result (HaveCause tokens.now) }
+    ensures accepted { (tree : TreeOf) (raw : RawTerm) (program : ProgramTerm) → AreAccepted tokens.now tree raw program → IfErr result IsNoRefusal }
 {
-    let read = match read_names(alloc, text) {
+    let read = match names_of(alloc, tokens) {
         Ok(read) => read,
         Err(end) => return Err(end),
     };
@@ -128,5 +104,21 @@ pub fn read_program(alloc: Global, text: &[u8]) -> Result<Accepted, FrontEnd>
             Ok(Accepted { tree, raw, program })
         }
         Err(end) => Err(type_end(end)),
+    }
+}
+
+/// The typed program of a text, exactly where the text has tokens and `read_tokens` finds theirs; else the first fault:
+/// that of bytes and numbers before any of its tokens.
+pub fn read_program(alloc: Global, text: &[u8]) -> Result<Accepted, FrontEnd>
+    requires { length text.now < 4294967295 }
+    ensures found { IfOk result (λ a. IsAccepted text.now a.tree a.raw a.program) }
+    ensures refused { IfErr result (HasCause text.now) }
+    ensures accepted { (tree : TreeOf) (raw : RawTerm) (program : ProgramTerm) → IsAccepted text.now tree raw program → IfErr result IsNoRefusal }
+{
+    match lex(alloc, text) {
+        Ok(tokens) => read_tokens(alloc, &tokens),
+        Err(LexEnd::BadByte(place)) => Err(FrontEnd::refused(Fault::Byte, place)),
+        Err(LexEnd::BadNumber(place)) => Err(FrontEnd::refused(Fault::Number, place)),
+        Err(LexEnd::Memory) => Err(FrontEnd::Memory),
     }
 }

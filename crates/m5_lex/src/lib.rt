@@ -14,6 +14,3 @@ pub use place::Place;
 pub use shown::show;
 pub use token::Token;
 pub use tokens::Tokens;
-
-#[cfg(test)]
-mod tests;

@@ -13,7 +13,5 @@ mod pop;
 mod several;
 mod stack;
 mod table;
-#[cfg(test)]
-mod tests;
 mod unary;
 mod write;

@@ -7,6 +7,4 @@ pub mod rounds;
 pub mod run;
 pub mod running;
 pub mod sites;
-#[cfg(test)]
-mod tests;
 pub mod turn;

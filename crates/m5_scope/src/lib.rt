@@ -9,7 +9,5 @@ pub mod laws;
 mod meaning;
 mod places;
 pub mod resolve;
-#[cfg(test)]
-mod tests;
 mod tuple;
 mod written;

@@ -1,6 +1,7 @@
 pub mod Alone
 pub mod Fields
 pub mod Line
+pub mod Pairs
 pub mod Quoted
 pub mod Reading
 pub mod Scenario

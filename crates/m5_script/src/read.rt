@@ -147,6 +147,3 @@ pub fn is_one_session(alloc: Global, text: &[u8]) -> Result<bool, AllocError>
     }
     Ok(true)
 }
-
-#[cfg(test)]
-mod tests;

@@ -120,6 +120,3 @@ pub fn trace_text(alloc: Global, history: &History) -> Result<Text, AllocError>
     out.push(b'\n')?;
     Text::of(alloc, out.as_slice())
 }
-
-#[cfg(test)]
-mod tests;

@@ -10,13 +10,10 @@ mod operate;
 mod outcome;
 mod parts;
 pub mod query;
-pub mod queue;
 mod reduce;
 mod reduced;
 pub mod resume;
 pub mod rules;
 pub mod site;
 mod size;
-#[cfg(test)]
-mod tests;
 pub mod thread;

@@ -11,12 +11,12 @@ ghost use Rattle.m5_source_site.specs.Waits.{reply_of, resumed};
 
 use crate::outcome::{return_text, step_to};
 use crate::query::{SiteItem, SiteReply};
-use crate::queue::Queue;
 use crate::rules::Rules;
 use crate::site::Site;
 use crate::thread::{FrameQueue, SiteThread};
 use m5_terms::form::{BinaryForm, LeafForm, UnaryForm};
 use m5_terms::node::{Node, NodeBox};
+use m5_terms::queue::Queue;
 use m5_terms::text::Text;
 use m5_terms::thread::Focus;
 use m5_terms::types::{Shape, Ty, TypeBox, World};

@@ -6,10 +6,10 @@ ghost use Rattle.m5_meaning.specs.Step.{stepped, is_full, begun};
 ghost use Rattle.m5_source_site.specs.ClosedSite.{HasRoom};
 ghost use Rattle.m5_source_site.specs.Waits.{with_front};
 
-use crate::queue::Queue;
 use crate::rules::Rules;
 use crate::thread::SiteThread;
 use m5_terms::node::Node;
+use m5_terms::queue::Queue;
 use std::alloc::{AllocError, Global};
 use std::marker::Model;
 

@@ -5,3 +5,4 @@ pub mod Digits
 pub mod Quoting
 pub mod PerWorlds
 pub mod SiteWorlds
+pub mod Tables

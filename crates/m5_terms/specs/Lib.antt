@@ -21,3 +21,4 @@ pub mod InText
 pub mod Outcome
 pub mod Decimal
 pub mod Quoted
+pub mod Table

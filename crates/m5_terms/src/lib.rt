@@ -14,9 +14,11 @@ pub mod opened;
 pub mod per_world;
 pub mod primitives;
 pub mod quoted;
+pub mod queue;
 pub mod seal;
 pub mod size;
 pub mod substitute;
+pub mod table;
 pub mod taken;
 pub mod term;
 #[cfg(test)]

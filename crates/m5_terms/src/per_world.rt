@@ -16,6 +16,7 @@ use std::alloc::AllocError;
 pub struct PerWorld<T> {
     home: T,
     server: T,
+    panel: T,
 }
 
 impl<T> PerWorld<T> {
@@ -26,6 +27,7 @@ impl<T> PerWorld<T> {
         match world {
             World::Home => &self.home,
             World::Server => &self.server,
+            World::Panel => &self.panel,
             World::Any => unreachable!(),
         }
     }
@@ -38,6 +40,7 @@ impl<T> PerWorld<T> {
         match world {
             World::Home => &mut self.home,
             World::Server => &mut self.server,
+            World::Panel => &mut self.panel,
             World::Any => unreachable!(),
         }
     }
@@ -53,7 +56,12 @@ impl<T: Drop> PerWorld<T> {
     {
         let home = make(World::Home)?;
         let server = make(World::Server)?;
-        Ok(PerWorld { home, server })
+        let panel = make(World::Panel)?;
+        Ok(PerWorld {
+            home,
+            server,
+            panel,
+        })
     }
 
     pub fn set(&mut self, world: World, value: T)
@@ -63,6 +71,7 @@ impl<T: Drop> PerWorld<T> {
         match world {
             World::Home => self.home = value,
             World::Server => self.server = value,
+            World::Panel => self.panel = value,
             World::Any => unreachable!(),
         }
     }

@@ -5,8 +5,6 @@ pub mod expr;
 pub mod form;
 pub mod grammar;
 pub mod names;
-#[cfg(test)]
-mod tests;
 pub mod tree;
 pub mod type_expr;
 pub mod value;

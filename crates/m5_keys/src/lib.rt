@@ -1,0 +1,7 @@
+//! The key store: a text for each key that has one, and the watches of keys.
+#![tactic(auto)]
+
+pub mod keys;
+#[cfg(test)]
+mod tests;
+pub mod watch;

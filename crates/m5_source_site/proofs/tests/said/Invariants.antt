@@ -1,5 +1,0 @@
-use Rattle.m5_source_site.specs.ClosedSite.{IsClosedSite}
-use Rattle.m5_source_site.proofs.tests.said.Given as goal
-
-abbrev pub invariant-steps : goal.invariant-steps
-invariant-steps l = IsClosedSite l.site
