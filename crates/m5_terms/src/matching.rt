@@ -3,6 +3,8 @@
 ghost use Rattle.m5_terms.specs.Machine.{Machine, IsSound};
 ghost use Rattle.m5_terms.specs.Matching.{Reading, then_reads, Matches, Moments, Meeting, then_meets, AreMet};
 ghost use Rattle.m5_terms.specs.Playing.{PlaysAlways, PlaysAlwaysFully};
+ghost use Rattle.m5_terms.specs.Related.{Asking, asking_machine, reads_items, through, state_through};
+ghost use Rattle.m5_terms.specs.declared.types.World.{World};
 
 /// A pass between two machines: what its output is read back to, which moments of the input those of its output meet, and that
 /// it owes nothing at any state.
@@ -61,4 +63,26 @@ pub fn sound_input_is_played_holds<P: Pass>()
 pub fn two_passes_match_holds<P: TwoPasses>()
     ensures matches { Matches P.first P.second P.over → Matches P.second P.third P.under → Matches P.first P.third (then_reads P.first P.second P.third P.over P.under) }
     ensures met { Matches P.first P.second P.over → AreMet P.first P.second P.over P.first_moments P.second_moments P.met_over → AreMet P.second P.third P.under P.second_moments P.third_moments P.met_under → AreMet P.first P.third (then_reads P.first P.second P.third P.over P.under) P.first_moments P.third_moments (then_meets P.first P.second P.third P.first_moments P.second_moments P.third_moments P.met_over P.met_under) }
+{}
+
+/// Two passes over sites whose links carry different items, one after the other.
+pub trait TwoItemPasses {
+    ghost first: { Asking };
+
+    ghost second: { Asking };
+
+    ghost third: { Asking };
+
+    ghost over: { second.State → first.State → Type 0 };
+
+    ghost under: { third.State → second.State → Type 0 };
+
+    ghost over_items: { World → second.Item → first.Item → Type 0 };
+
+    ghost under_items: { World → third.Item → second.Item → Type 0 };
+}
+
+/// Two such passes that match are one that matches, by the items and the states between.
+pub fn item_passes_match_holds<P: TwoItemPasses>()
+    ensures { (w : World) → Matches (asking_machine P.first) (asking_machine P.second) (reads_items P.first P.second P.over P.over_items w) → Matches (asking_machine P.second) (asking_machine P.third) (reads_items P.second P.third P.under P.under_items w) → Matches (asking_machine P.first) (asking_machine P.third) (reads_items P.first P.third (state_through P.over P.under) (through P.over_items P.under_items) w) }
 {}
