@@ -1,5 +1,5 @@
 -- What a site does next: a local step of its front thread, or an ask with what the answer makes of the site.
-use Rattle.std.specs.Prelude.{ℕ, zero, suc, ◌+◌, Bool, true, nat_lt, nat_le, if◌then◌else◌, List, [], ◌∷◌, ◌++◌, length, sum_by, slice_get, slice_set, Option, Some, None}
+use Rattle.std.specs.Prelude.{ℕ, zero, suc, ◌+◌, ◌-◌, Bool, true, nat_lt, nat_le, if◌then◌else◌, List, [], ◌∷◌, ◌++◌, length, sum_by, slice_get, slice_set, Option, Some, None}
 use Rattle.m5_terms.specs.Expression.{Expression, leaf, unary, binary}
 use Rattle.m5_terms.specs.TypeExpression as type
 use Rattle.m5_terms.specs.Machine.{Next, goes, asks, wrong}
@@ -155,3 +155,9 @@ front P u s (t ∷ ts) = focused P u s ts t.frames t.focus
 -- what a site at the world u does next
 abbrev pub site_next : Program → World → Site → SiteNext
 site_next P u s = front P u s s.threads
+
+-- what the step about to be made weighs; of an ask the answer's text is not counted
+abbrev pub next_weight : Program → Site → SiteNext → ℕ
+next_weight P s (goes t) = t.weight - s.weight
+next_weight P s (asks q resume) = step_weight P 0
+next_weight P s wrong = 0

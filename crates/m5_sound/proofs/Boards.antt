@@ -17,11 +17,13 @@ use Rattle.m5_meaning.specs.Site.{Program, Item}
 use Rattle.m5_script.specs.declared.items.TextPair.{TextPair}
 use Rattle.m5_script.specs.Scenario.{IsPair}
 use Rattle.m5_network.specs.Board.{Watch, Trigger, Happening, Handling, Desk, Board, text_at, set_at, at_session, at_world, with_link, posted, Answered, text_or_missing, text_or_empty, take_event, take_trigger, take_other, take_from, take_at, answer_of}
-use Rattle.m5_sound.specs.Settings.{setting, Grows}
-use Rattle.m5_sound.specs.Sites.{ItemTyped, QueryTyped, ReplyTyped, IsAnswer}
+use Rattle.m5_site_sound.specs.Settings.{setting, Grows}
+use Rattle.m5_site_sound.specs.Sites.{ItemTyped, QueryTyped, ReplyTyped}
+use Rattle.m5_terms.specs.Answers.{IsAnswer}
 use Rattle.m5_sound.specs.Texts.{DeskHasTexts}
-use Rattle.m5_sound.proofs.Worlds.{by-world}
-use Rattle.m5_sound.proofs.Growth.{more, each-append, items-grown}
+use Rattle.m5_terms.proofs.SiteWorlds.{by-world}
+use Rattle.m5_terms.proofs.Lists.{each-append}
+use Rattle.m5_site_sound.proofs.Growth.{more, items-grown}
 
 -- what a session has on the board is typed
 pub record DeskTyped (E : Setting) (d : Desk Item) : Type 0 where

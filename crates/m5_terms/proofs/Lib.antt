@@ -1,3 +1,7 @@
-pub mod Diagrams
-pub mod Passes
+pub mod Lists
+pub mod SiteWorlds
 pub mod PerWorlds
+pub mod Matched
+pub mod Lifted
+pub mod Chained
+pub mod Played
