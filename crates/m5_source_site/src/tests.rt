@@ -6,11 +6,12 @@ ghost use Rattle.m5_terms.specs.Substitution.{unary_binders, binary_binders};
 ghost use Rattle.m5_source_site.specs.ClosedSite.{IsClosedSite, IsClosedProgram};
 
 use crate::advance::{Progress, advance};
-use crate::query::{SiteItem, SiteQuery, SiteReply};
+use crate::item::{LinkItem, SiteAsk};
 use crate::resume::Waiting;
 use crate::rules::Rules;
 use crate::site::Site;
 use crate::thread::SiteThread;
+use m5_terms::ask::{AnswerOf, AskOf};
 use m5_terms::form::{BinaryForm, LeafForm, UnaryForm};
 use m5_terms::listed::Listed;
 use m5_terms::node::{Node, NodeBox};
@@ -84,9 +85,9 @@ fn saying(alloc: Global, which: u32) -> Result<Site, AllocError>
     Ok(Site::opening(alloc, threads))
 }
 
-fn first_said(query: &SiteQuery, waiting: &Waiting) -> Option<(u8, u64, u64)> {
+fn first_said(query: &SiteAsk, waiting: &Waiting) -> Option<(u8, u64, u64)> {
     match query {
-        SiteQuery::Say(text) => match text.bytes() {
+        AskOf::Say(text) => match text.bytes() {
             [first, ..] => Some((*first, waiting.site.steps(), waiting.site.weight())),
             [] => None,
         },
@@ -146,7 +147,7 @@ fn begins_what_arrives(rt: HostRuntime) -> Result<(), Fail> {
     assert!(rt; waiting.site.weight() < 10);
     let focus = Focus::Eval(World::Home, text(alloc, b"abc")?);
     let thread = SiteThread::new(Queue::make(alloc), focus);
-    let reply = SiteReply::Message(World::Server, SiteItem::Thread(thread));
+    let reply = AnswerOf::Message(World::Server, LinkItem::of_thread(thread));
     let site = waiting
         .resume(alloc, &rules, World::Home, reply)?
         .ok_or("no answer")?;
