@@ -19,6 +19,7 @@ module _ {A B C : Type 0} where
       of (ask.Read t) h k = subst (λ x. AskReads I x o) h k
       of (ask.Write t x) h k = subst (λ x. AskReads I x o) h k
       of (ask.Watch t n) h k = subst (λ x. AskReads I x o) h k
+      of (ask.Show t) h k = subst (λ x. AskReads I x o) h k
       of (ask.Send v i) h k = let m : AskReads I (ask.Send v h.0) o = subst (λ x. AskReads I x o) h.2 k in (m.0, (h.0, h.1, m.1), m.2)
       of ask.Take h k = subst (λ x. AskReads I x o) h k
       of (ask.Stop c) h k = subst (λ x. AskReads I x o) h k

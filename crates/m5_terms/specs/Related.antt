@@ -17,6 +17,7 @@ AskReads I (ask.On e n) q = q ≡ ask.On e n
 AskReads I (ask.Read k) q = q ≡ ask.Read k
 AskReads I (ask.Write k t) q = q ≡ ask.Write k t
 AskReads I (ask.Watch k n) q = q ≡ ask.Watch k n
+AskReads I (ask.Show t) q = q ≡ ask.Show t
 AskReads {A} {B} I (ask.Send v i) q = (j : B) × I v i j × (q ≡ ask.Send v j)
 AskReads I ask.Take q = q ≡ ask.Take
 AskReads I (ask.Stop c) q = q ≡ ask.Stop c
