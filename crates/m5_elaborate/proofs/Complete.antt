@@ -8,7 +8,7 @@ use Rattle.m5_terms.specs.TypeExpression.{TypeExpression, unit, bool, int, strin
 use Rattle.m5_terms.specs.Primitives.{primitive_world, primitive_type}
 use Rattle.m5_terms.specs.Substitution.{unary_binders, binary_binders, second_binders, third_binders}
 use Rattle.m5_terms.specs.declared.types.World.{World}
-use Rattle.m5_terms.specs.declared.types.World.TheVariants.{Home, Server, Any}
+use Rattle.m5_terms.specs.declared.types.World.TheVariants.{Any}
 use Rattle.m5_terms.specs.declared.types.Primitive.{Primitive}
 use Rattle.m5_terms.specs.declared.types.Primitive.TheVariants as primitive
 use Rattle.m5_terms.specs.declared.form.LeafForm.{LeafForm}
@@ -19,6 +19,7 @@ use Rattle.m5_terms.specs.declared.form.BinaryForm.{BinaryForm}
 use Rattle.m5_terms.specs.declared.form.BinaryForm.TheVariants.{Call, Cons, Store, Get, Binary, Val, Put, Leta, Lets}
 use Rattle.m5_terms.specs.declared.form.TernaryForm.{TernaryForm}
 use Rattle.m5_terms.specs.declared.form.TernaryForm.TheVariants.{If, CaseSum, CaseList}
+use Rattle.m5_terms.proofs.SiteWorlds.{same-self}
 use Rattle.m5_typing.specs.Operators.{operand, outcome}
 use Rattle.m5_typing.specs.Context.{Bound, local, Context, Setting, with_all, IsKnownAt}
 use Rattle.m5_typing.specs.Value.{is_value_form}
@@ -37,7 +38,7 @@ use Rattle.m5_elaborate.specs.Erased.{erased}
 use Rattle.m5_elaborate.specs.Leaves.{is_any, local_type, valid_type, declared_type, extern_type, address_type, leaf_type}
 use Rattle.m5_elaborate.specs.Synthesis.{unary_world, unary_binding, unary_type, second_part, binary_type, arms, ternary_type}
 use Rattle.m5_elaborate.specs.Checked.{checked, limited}
-use Rattle.m5_elaborate.proofs.Same.{left_true, right_true, both_true, world_self, type_self}
+use Rattle.m5_elaborate.proofs.Same.{left_true, right_true, both_true, type_self}
 use Rattle.m5_elaborate.proofs.Outcomes.{joined}
 use Rattle.m5_elaborate.proofs.Sound.{Declares}
 
@@ -54,12 +55,11 @@ pub one_type : (p : Place) (A C : TypeExpression) → if_same (same_type A A) p 
 one_type p A C = when (same_type A A) (found C) _ (type_self A)
 
 not_any : (w : World) → w ≢ Any → is_any w ≡ false
-not_any Home n = refl
-not_any Server n = refl
 not_any Any n = absurd (n refl)
+not_any _ n = refl
 
 found_local : (p : Place) (w : World) (A : TypeExpression) → local_type p w (Some (local w A)) ≡ found A
-found_local p w A = when (same_world w w) (found A) _ (world_self w)
+found_local p w A = when (same_world w w) (found A) _ (same-self w)
 
 found_declared : (p : Place) (w : World) (A : TypeExpression) (o : Option Bound) → IsKnownAt o w A → declared_type p w o ≡ found A
 found_declared p w A o (inl k) = ap (λ b. declared_type p w b) k.1 ∙ found_local p w A
@@ -67,17 +67,12 @@ found_declared p w A o (inr k) = ap (λ b. declared_type p w b) k
 
 site_of : (e : Primitive) → is_any (primitive_world e) ≡ false
 site_of primitive.Say = refl
-site_of primitive.SetText = refl
-site_of primitive.GetText = refl
-site_of primitive.On = refl
-site_of primitive.Read = refl
-site_of primitive.Write = refl
-site_of primitive.Watch = refl
+site_of _ = refl
 
 found_extern : (p : Place) (e : Primitive) → extern_type p (primitive_world e) e ≡ found (primitive_type e)
 found_extern p e =
     unless (is_any (primitive_world e)) (if same_world (primitive_world e) (primitive_world e) then found (primitive_type e) else _) _ (site_of e)
-    ∙ when (same_world (primitive_world e) (primitive_world e)) (found (primitive_type e)) _ (world_self (primitive_world e))
+    ∙ when (same_world (primitive_world e) (primitive_world e)) (found (primitive_type e)) _ (same-self (primitive_world e))
 
 found_address : (p : Place) (w : World) → w ≢ Any → address_type p w ≡ found (address w)
 found_address p w n = unless (is_any w) (found (address w)) _ (not_any w n)

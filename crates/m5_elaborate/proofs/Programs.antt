@@ -4,7 +4,7 @@ use Rattle.std.specs.List.{list_all}
 use Rattle.std.proofs.lemmas.List.{take_more}
 use Rattle.m5_terms.specs.TypeExpression.{TypeExpression, unit, function, same_type}
 use Rattle.m5_terms.specs.declared.types.World.{World}
-use Rattle.m5_terms.specs.declared.types.World.TheVariants.{Home, Server, Any}
+use Rattle.m5_terms.specs.declared.types.World.TheVariants.{Home, Any}
 use Rattle.m5_terms.specs.Expression.{Expression}
 use Rattle.m5_typing.specs.declared.functions.Function as programs_function
 use Rattle.m5_typing.specs.Context.{Bound, local, Context, nothing, with}
@@ -37,9 +37,8 @@ same_bound (g ∷ gs) zero = refl
 same_bound (g ∷ gs) (suc f) = same_bound gs f
 
 fair_at : (w : World) (A : TypeExpression) → IsFunction A → IsFair (bound_at w A)
-fair_at Home A h = (λ e. cc, h)
-fair_at Server A h = (λ e. cc, h)
 fair_at Any A h = h
+fair_at _ A h = (λ e. cc, h)
 
 fair_bound : (o : Option Function) (b : Bound) → declared_bound o ≡ Some b → IsFair b
 fair_bound None b e = cc

@@ -38,7 +38,8 @@ use Rattle.m5_elaborate.specs.Erased.{erased}
 use Rattle.m5_elaborate.specs.Leaves.{is_any, local_type, valid_type, declared_type, extern_type, address_type, leaf_type}
 use Rattle.m5_elaborate.specs.Synthesis.{unary_world, unary_binding, unary_type, addressed, second_part, binary_type, arms, ternary_type}
 use Rattle.m5_elaborate.specs.Checked.{checked}
-use Rattle.m5_elaborate.proofs.Same.{left_true, right_true, world_same, type_same}
+use Rattle.m5_terms.proofs.SiteWorlds.{same-true}
+use Rattle.m5_elaborate.proofs.Same.{left_true, right_true, type_same}
 use Rattle.m5_elaborate.proofs.Outcomes.{found_is, both, passed, allowed, limits}
 
 pub record IsFunction (A : TypeExpression) : Type 0 where
@@ -63,7 +64,7 @@ local_known p w None A e = cc
 local_known p w (Some (valid B)) A e = cc
 local_known p w (Some (local v B)) A e =
     let t = passed (same_world v w) (found B) _ A e in
-    λ i. Some (local (world_same v w t.test i) (found_is B A t.then_found i))
+    λ i. Some (local (same-true v w t.test i) (found_is B A t.then_found i))
 
 valid_known : (p : Place) (o : Option Bound) (A : TypeExpression) → valid_type p o ≡ found A → o ≡ Some (valid A)
 valid_known p None A e = cc
@@ -81,14 +82,14 @@ declared_known p w (Some (local v B)) A h e =
     let t = passed (same_world v w) (found B) _ A e in
     let k = h (local v B) refl in
     let q = found_is B A t.then_found in
-    let r = world_same v w t.test in
+    let r = same-true v w t.test in
     (k.1.from, k.1.to, sym q ∙ k.1.is, inl (λ z. k.0 (r ∙ z), λ i. Some (local (r i) (q i))))
 
 extern_known : (p : Place) (w : World) (e : Primitive) (A : TypeExpression) → extern_type p w e ≡ found A → (w ≡ primitive_world e) × (A ≡ primitive_type e)
 extern_known p w e A h =
     let s = allowed (is_any w) (if same_world w (primitive_world e) then found (primitive_type e) else refused WrongWorld p) _ A h in
     let t = passed (same_world w (primitive_world e)) (found (primitive_type e)) _ A s.then_found in
-    (world_same w (primitive_world e) t.test, sym (found_is (primitive_type e) A t.then_found))
+    (same-true w (primitive_world e) t.test, sym (found_is (primitive_type e) A t.then_found))
 
 address_known : (p : Place) (w : World) (A : TypeExpression) → address_type p w ≡ found A → (w ≢ Any) × (A ≡ address w)
 address_known p w A h =

@@ -7,7 +7,7 @@ use Rattle.m5_terms.specs.Machine.{Comes}
 use Rattle.m5_terms.specs.declared.ask.AskOf.TheVariants as ask
 use Rattle.m5_terms.specs.declared.ask.AnswerOf.TheVariants as answer
 use Rattle.m5_terms.specs.declared.types.World.{World}
-use Rattle.m5_terms.specs.declared.types.World.TheVariants.{Home, Server, Any}
+use Rattle.m5_terms.specs.declared.types.World.TheVariants.{Home}
 use Rattle.m5_terms.specs.declared.form.LeafForm.TheVariants as leaf_form
 use Rattle.m5_terms.specs.declared.ask.Entry.{Entry}
 use Rattle.m5_terms.specs.declared.ask.End.TheVariants as end
@@ -55,7 +55,7 @@ said_deed t = record { session = 1; world = Home; query = ask.Say t; reply = ans
 record Stands (N : Network) (s : Site) (before : List Thread) : Type 0 where
   home : N.site 1 Home ≡ with_threads s before
   runs : s.stopped ≡ false
-  server : N.site 1 Server ≡ opening_site []
+  others : (w : World) → w ≢ Home → N.site 1 w ≡ opening_site []
   board : N.board ≡ opening_board silent
 
 first-home : IsSite silent 1 Home
@@ -84,6 +84,14 @@ step P N s before t s1 mid at does = record {
   };
 }
 
+others-stay : (x : Site) (N : Network) (w : World) → w ≢ Home → (with_site 1 Home x N.board N).site 1 w ≡ N.site 1 w
+others-stay x N Home n = absurd (n refl)
+others-stay x N _ n = refl
+
+opened-others : (P : Program) (w : World) → w ≢ Home → (opening P silent).site 1 w ≡ opening_site []
+opened-others P Home n = absurd (n refl)
+opened-others P _ n = refl
+
 abbrev Speaking : Program → Network → List (List ℕ) → List Thread → Type 0
 Speaking P N ls after = (M : Network) × (s : Site) × (threads : List Thread) × Run P silent N (map place_of (map said_entry ls)) (map said_deed ls) M × Stands M s threads × Leads P Home s threads after
 
@@ -91,10 +99,14 @@ run : (P : Program) (ls : List (List ℕ)) (N : Network) (s : Site) (before afte
 run P [] N s before after at p = (N, s, before, refl, at, p)
 run P (t ∷ ls) N s before after at p =
     let L = with_site 1 Home (with_threads p.0 p.1) N.board N in
-    let rest = run P ls L p.0 p.1 after (record { home = refl; runs = p.2.stopped ∙ at.runs; server = at.server; board = at.board }) p.3 in
+    let rest = run P ls L p.0 p.1 after (record { home = refl; runs = p.2.stopped ∙ at.runs; others = λ w n. others-stay (with_threads p.0 p.1) N w n ∙ at.others w n; board = at.board }) p.3 in
     (rest.0, rest.1, rest.2, (L, step P N s before t p.0 p.1 at p.2, rest.3), rest.4, rest.5)
 
 -- ---- its end
+
+quiet : (w : World) → (answer_of (opening_board silent) 1 w ask.Take).reply ≡ answer.Nothing
+quiet Home = refl
+quiet _ = refl
 
 nothing-there : (N : Network) (w : World) → N.board ≡ opening_board silent → (answer_of (opening_board silent) 1 w ask.Take).reply ≡ answer.Nothing → (answer_of N.board 1 w ask.Take).reply ≡ answer.Nothing
 nothing-there N w e h = subst (λ b. (answer_of b 1 w ask.Take).reply ≡ answer.Nothing) (sym e) h
@@ -113,33 +125,26 @@ home-rests P N s threads at p =
       nothing_there = nothing-there N Home at.board refl;
     }
 
-server-rests : (P : Program) (N : Network) (s : Site) (threads : List Thread) → Stands N s threads → IsAtRest P N 1 Server
-server-rests P N s threads at = record {
+other-rests : (P : Program) (N : Network) (s : Site) (threads : List Thread) (w : World) → Stands N s threads → w ≢ Home → IsAtRest P N 1 w
+other-rests P N s threads w at n = record {
   resume = _;
   next = record {
     steps = 0;
     waiting = opening_site [];
-    comes = at.server;
+    comes = at.others w n;
     asking = refl;
   };
-  nothing_there = nothing-there N Server at.board refl;
+  nothing_there = nothing-there N w at.board (quiet w);
 }
 
-rests : (P : Program) (N : Network) (s : Site) (threads : List Thread) → Stands N s threads → Leads P Home s threads (ended [] Home [])
-    → (k : ℕ) (w : World) (d : List World) → d ≡ Home ∷ Server ∷ [] → (n : ℕ) → IsSite silent n w → IsAtRest P N 1 w
-rests P N s threads at p k Home d e n site = home-rests P N s threads at p
-rests P N s threads at p k Server d e n site = server-rests P N s threads at
-rests P N s threads at p k Any d e n site = absurd (no-any site.world.0 site.world.1 site.world.2)
-  where
-    no-any : (j : ℕ) → j < 2 → Rattle.std.proofs.Common.slice_index_or (Home ∷ Server ∷ []) j Any ≡ Any → ⊥
-    no-any zero small h = cc
-    no-any (suc zero) small h = cc
-    no-any (suc (suc j)) small h = omega arith
+rests : (P : Program) (N : Network) (s : Site) (threads : List Thread) → Stands N s threads → Leads P Home s threads (ended [] Home []) → (w : World) → IsAtRest P N 1 w
+rests P N s threads at p Home = home-rests P N s threads at p
+rests P N s threads at p w = other-rests P N s threads w at (λ e. cc)
 
 finished : (P : Program) (N : Network) (s : Site) (threads : List Thread) → Stands N s threads → Leads P Home s threads (ended [] Home []) → IsFinished P silent N
 finished P N s threads at p n w site =
     let only : n ≡ 1 = omega (arith, site.from_one, site.to_last) in
-    inl (subst (λ k. IsAtRest P N k w) (sym only) (rests P N s threads at p 0 w _ refl n site))
+    inl (subst (λ k. IsAtRest P N k w) (sym only) (rests P N s threads at p w))
 
 -- ---- the claim
 
@@ -163,7 +168,7 @@ claim e ls says =
     let N = opening P silent in
     let start = opening_site ((N.site 1 Home).threads) in
     let spoken = subst (λ x. Speaks P Home start (Rattle.m5_meaning.specs.Step.thread_of [] (Rattle.m5_terms.specs.declared.thread.Focus.TheVariants.Eval Home x) ∷ []) ls (ended [] Home [])) (close-nothing e) (speaks P Home no_texts e ls says start [] []) in
-    let all = run P ls N start _ (ended [] Home []) (record { home = refl; runs = refl; server = refl; board = refl }) spoken in
+    let all = run P ls N start _ (ended [] Home []) (record { home = refl; runs = refl; others = opened-others P; board = refl }) spoken in
     record {
       deeds = map said_deed ls;
       last = all.0;

@@ -3,3 +3,4 @@ pub mod Parts
 pub mod Reduction
 pub mod Site
 pub mod Step
+pub mod Opening

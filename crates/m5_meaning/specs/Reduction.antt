@@ -32,7 +32,7 @@ pub data Reduced : Type 0 where
   loads : ℕ → Reduced
   stores : ℕ → Expression → Reduced
   leaves : World → Expression → Reduced
-  says : List ℕ → Reduced
+  says shows : List ℕ → Reduced
   sets writes : List ℕ → List ℕ → Reduced
   gets reads : List ℕ → Reduced
   handles watches : List ℕ → Expression → Reduced
@@ -57,6 +57,7 @@ called_extern primitive.On (binary binary_form.Pair (leaf (leaf_form.Str e)) h) 
 called_extern primitive.Read (leaf (leaf_form.Str k)) = reads k
 called_extern primitive.Write (binary binary_form.Pair (leaf (leaf_form.Str k)) (leaf (leaf_form.Str t))) = writes k t
 called_extern primitive.Watch (binary binary_form.Pair (leaf (leaf_form.Str k)) h) = watches k h
+called_extern primitive.Show (leaf (leaf_form.Str t)) = shows t
 called_extern _ _ = wrong
 
 abbrev pub called_function : Option Function → Expression → Reduced

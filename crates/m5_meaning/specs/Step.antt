@@ -1,5 +1,5 @@
 -- What a site does next: a local step of its front thread, or an ask with what the answer makes of the site.
-use Rattle.std.specs.Prelude.{ℕ, zero, suc, ◌+◌, Bool, true, nat_lt, nat_le, if◌then◌else◌, List, [], ◌∷◌, ◌++◌, length, sum_by, slice_get, slice_set, Option, Some, None}
+use Rattle.std.specs.Prelude.{ℕ, zero, suc, ◌+◌, ◌-◌, Bool, true, nat_lt, nat_le, if◌then◌else◌, List, [], ◌∷◌, ◌++◌, length, sum_by, slice_get, slice_set, Option, Some, None}
 use Rattle.m5_terms.specs.Expression.{Expression, leaf, unary, binary}
 use Rattle.m5_terms.specs.TypeExpression as type
 use Rattle.m5_terms.specs.Machine.{Next, goes, asks, wrong}
@@ -19,7 +19,7 @@ use Rattle.m5_terms.specs.declared.thread.Focus.TheVariants.{Eval, Returned}
 use Rattle.m5_meaning.specs.Parts.{parts, part, fill, inner_world}
 use Rattle.m5_typing.specs.Width.{program_width}
 use Rattle.m5_meaning.specs.Site.{Program, Thread, thread_size, Site, Item, thread, raw}
-use Rattle.m5_meaning.specs.Reduction.{Reduced, gives, makes_text, goes_on, makes_cell, loads, stores, leaves, says, sets, writes, gets, reads, handles, watches, reduced, unit_value, text_value, unit_or}
+use Rattle.m5_meaning.specs.Reduction.{Reduced, gives, makes_text, goes_on, makes_cell, loads, stores, leaves, says, shows, sets, writes, gets, reads, handles, watches, reduced, unit_value, text_value, unit_or}
 use Rattle.m5_meaning.specs.Reduction as reduction
 
 abbrev pub SiteNext : Type 0
@@ -99,6 +99,7 @@ outcome P u s ts fs w (loads n) = loaded P s ts fs w (slice_get s.cells n)
 outcome P u s ts fs w (stores n v) = stored P s ts fs w n v (slice_get s.cells n)
 outcome P u s ts fs w (leaves v e) = asks (ask.Send v (thread (thread_of (Return w ∷ fs) (Eval v e)))) (after_done P s ts)
 outcome P u s ts fs w (says t) = asks (ask.Say t) (after_done P s (thread_of fs (Returned w unit_value) ∷ ts))
+outcome P u s ts fs w (shows t) = asks (ask.Show t) (after_done P s (thread_of fs (Returned w unit_value) ∷ ts))
 outcome P u s ts fs w (sets e t) = asks (ask.Set e t) (after_done P s (thread_of fs (Returned w unit_value) ∷ ts))
 outcome P u s ts fs w (writes k t) = asks (ask.Write k t) (after_done P s (thread_of fs (Returned w unit_value) ∷ ts))
 outcome P u s ts fs w (gets e) = asks (ask.GetText e) (after_get_text P s ts fs w)
@@ -155,3 +156,9 @@ front P u s (t ∷ ts) = focused P u s ts t.frames t.focus
 -- what a site at the world u does next
 abbrev pub site_next : Program → World → Site → SiteNext
 site_next P u s = front P u s s.threads
+
+-- what the step about to be made weighs; of an ask the answer's text is not counted
+abbrev pub next_weight : Program → Site → SiteNext → ℕ
+next_weight P s (goes t) = t.weight - s.weight
+next_weight P s (asks q resume) = step_weight P 0
+next_weight P s wrong = 0

@@ -8,7 +8,7 @@ use Rattle.m5_terms.specs.declared.ask.AskOf.TheVariants as ask
 use Rattle.m5_terms.specs.declared.ask.AnswerOf.{AnswerOf}
 use Rattle.m5_terms.specs.declared.ask.AnswerOf.TheVariants as answer
 use Rattle.m5_terms.specs.declared.types.World.{World}
-use Rattle.m5_terms.specs.declared.types.World.TheVariants.{Home, Server, Any}
+use Rattle.m5_terms.specs.declared.types.World.TheVariants.{Home, Server}
 use Rattle.m5_script.specs.declared.items.TextPair.{TextPair}
 
 -- a watch of a key by a session's handler
@@ -106,11 +106,11 @@ abbrev pub take_trigger : {Item : Type 0} → Board Item → ℕ → Desk Item �
 take_trigger b s d [] = answered answer.Nothing b
 take_trigger b s d (t ∷ ts) = answered_at (answer.Fired t.key t.number t.text) s (record d { triggers = ts }) b
 
--- without a message, a home takes its next event and a server its first trigger
+-- without a message, a home takes its next event and a server its first trigger; other worlds take messages alone
 abbrev pub take_other : {Item : Type 0} → Board Item → ℕ → World → Answered Item
 take_other b s Home = take_event b s (b.desks s) (b.desks s).events
 take_other b s Server = take_trigger b s (b.desks s) (b.desks s).triggers
-take_other b s Any = answered answer.Nothing b
+take_other b s _ = answered answer.Nothing b
 
 -- a message comes first: the first item of the first link to the site that is not empty
 abbrev pub take_from : {Item : Type 0} → Board Item → ℕ → World → World → List Item → Answered Item → Answered Item
@@ -130,6 +130,7 @@ answer_of b s w (ask.On e n) = answered_at answer.Done s (record (b.desks s) { h
 answer_of b s w (ask.Read k) = answered (text_or_missing (text_at b.pairs k)) b
 answer_of b s w (ask.Write k t) = answered answer.Done (record { pairs = set_at b.pairs k t; watches = b.watches; desks = posted k t b.watches b.desks })
 answer_of b s w (ask.Watch k n) = answered answer.Done (record b { watches = b.watches ++ record { key = k; session = s; number = n } ∷ [] })
+answer_of b s w (ask.Show t) = answered answer.Done b
 answer_of b s w (ask.Send v i) = answered_at answer.Done s (with_link w v ((b.desks s).link w v ++ i ∷ []) (b.desks s)) b
 answer_of b s w ask.Take = take_at b s w site_worlds
 answer_of b s w (ask.Stop c) = answered answer.Done b

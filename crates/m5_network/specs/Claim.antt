@@ -1,5 +1,5 @@
 -- What a history claims of a program and a scenario.
-use Rattle.std.specs.Prelude.{◌≡◌, ℕ, zero, suc, Bool, true, false, List, map, Option, Some, None, sum_by, All}
+use Rattle.std.specs.Prelude.{◌≡◌, ℕ, zero, suc, List, map, Option, Some, None, sum_by, All}
 use Rattle.m5_terms.specs.Primitives.{primitive_world}
 use Rattle.m5_terms.specs.declared.types.World.{World}
 use Rattle.m5_terms.specs.declared.types.Primitive.{Primitive}
@@ -12,16 +12,13 @@ use Rattle.m5_terms.specs.declared.ask.Entry.{Entry}
 use Rattle.m5_terms.specs.declared.ask.End.{End}
 use Rattle.m5_terms.specs.declared.ask.End.TheVariants as end
 use Rattle.m5_terms.specs.declared.ask.History.{History}
-use Rattle.m5_meaning.specs.Site.{Program, Item, thread, raw}
+use Rattle.m5_meaning.specs.Site.{Program}
 use Rattle.m5_script.specs.Scenario.{Scenario}
 use Rattle.m5_network.specs.Entries.{Deed, entry_of}
-use Rattle.m5_network.specs.Run.{Network, Place, Run, IsFinished}
-use Rattle.m5_network.specs.Opening.{opening}
-
--- a source item has the seal exactly where it is a thread
-abbrev pub has_seal : Item → Bool
-has_seal (thread t) = true
-has_seal (raw bytes) = false
+use Rattle.m5_network.specs.Kinds.{Kind, NetOf, Place, RunOf, IsOver}
+use Rattle.m5_network.specs.Run.{source}
+pub use Rattle.m5_network.specs.Run.{has_seal}
+use Rattle.m5_network.specs.Opening.{opening_of}
 
 -- the cause of a stop that the run chose
 abbrev pub chosen_cause : Act → Option Cause
@@ -43,6 +40,7 @@ primitive_of (act.ReadNone k) = Some primitive.Read
 primitive_of (act.ReadSome k t) = Some primitive.Read
 primitive_of (act.Write k t) = Some primitive.Write
 primitive_of (act.Watch k) = Some primitive.Watch
+primitive_of (act.Show t) = Some primitive.Show
 primitive_of _ = None
 
 abbrev pub IsAtItsWorld : Option Primitive → World → Type 0
@@ -60,11 +58,15 @@ ending (suc n) = end.Stopped (suc n)
 
 -- the entries are the network run by the places that the history names, that run is finished, each primitive stands
 -- at its declared world, and the last line counts the stopped sites
-pub record IsRunOf (P : Program) (S : Scenario) (H : History) : Type 0 where
-  pub deeds : List (Deed Item)
-  pub last : Network
-  pub run : Run P S (opening P S) (map place_of H.entries) deeds last
-  pub shown : H.entries ≡ map (entry_of has_seal) deeds
-  pub finished : IsFinished P S last
+pub record IsHistoryOf (K : Kind) (S : Scenario) (H : History) : Type 0 where
+  pub deeds : List (Deed K.Item)
+  pub last : NetOf K
+  pub run : RunOf K S.sessions (opening_of K S) (map place_of H.entries) deeds last
+  pub shown : H.entries ≡ map (λ (d : Deed K.Item). entry_of (K.has_seal d.session) d) deeds
+  pub finished : IsOver K S.sessions last
   pub worlds : All (λ (e : Entry). IsAtItsWorld (primitive_of e.act) e.world) H.entries
   pub ended : H.end ≡ ending (sum_by (λ (e : Entry). stop_count e.act) H.entries)
+
+-- of the meaning's sites, with the stops that the scenario's numbers license
+abbrev pub IsRunOf : Program → Scenario → History → Type 0
+IsRunOf P S H = IsHistoryOf (source P S) S H

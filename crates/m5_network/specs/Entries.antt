@@ -40,6 +40,7 @@ shown has_seal (ask.On e n) r = act.On e
 shown has_seal (ask.Read k) r = read_shown k r
 shown has_seal (ask.Write k t) r = act.Write k t
 shown has_seal (ask.Watch k n) r = act.Watch k
+shown has_seal (ask.Show t) r = act.Show t
 shown has_seal (ask.Send v i) r = act.Send v
 shown has_seal ask.Take r = take_shown has_seal r
 shown has_seal (ask.Stop c) r = act.Stop c

@@ -1,6 +1,8 @@
 pub mod Board
 pub mod Entries
+pub mod Kinds
 pub mod Run
+pub mod FirstMoment
 pub mod Plain
 pub mod Opening
 pub mod Claim

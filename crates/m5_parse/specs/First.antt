@@ -6,13 +6,13 @@ use Rattle.m5_tree.specs.declared.grammar.Phrase.{Phrase}
 use Rattle.m5_tree.specs.declared.grammar.Phrase.TheVariants as phrase
 
 abbrev pub of_world : List Kind
-of_world = kind.Home ∷ kind.Server ∷ []
+of_world = kind.Home ∷ kind.Server ∷ kind.Panel ∷ []
 
 abbrev pub of_type : List Kind
-of_type = kind.Unit ∷ kind.Bool ∷ kind.Int ∷ kind.String ∷ kind.Sham ∷ kind.Home ∷ kind.Server ∷ kind.Open ∷ []
+of_type = kind.Unit ∷ kind.Bool ∷ kind.Int ∷ kind.String ∷ kind.Sham ∷ kind.Home ∷ kind.Server ∷ kind.Panel ∷ kind.Open ∷ []
 
 abbrev pub of_atom : List Kind
-of_atom = kind.Name ∷ kind.Number ∷ kind.Literal ∷ kind.True ∷ kind.False ∷ kind.Here ∷ kind.Home ∷ kind.Server ∷ kind.Nil ∷ kind.Open ∷ kind.Let ∷ kind.Case ∷ []
+of_atom = kind.Name ∷ kind.Number ∷ kind.Literal ∷ kind.True ∷ kind.False ∷ kind.Here ∷ kind.Home ∷ kind.Server ∷ kind.Panel ∷ kind.Nil ∷ kind.Open ∷ kind.Let ∷ kind.Case ∷ []
 
 abbrev pub of_head : List Kind
 of_head = kind.Fst ∷ kind.Snd ∷ kind.Bang ∷ kind.Ref ∷ kind.Hold ∷ kind.Sham ∷ kind.Str ∷ kind.Div ∷ kind.Inl ∷ kind.Inr ∷ of_atom

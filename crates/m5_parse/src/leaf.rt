@@ -25,6 +25,7 @@ fn leaf_form(word: Plain) -> LeafForm
         Plain::Here => LeafForm::Here,
         Plain::Home => LeafForm::Addr(World::Home),
         Plain::Server => LeafForm::Addr(World::Server),
+        Plain::Panel => LeafForm::Addr(World::Panel),
     }
 }
 

@@ -20,9 +20,9 @@ pub(crate) struct Production {
     pub symbols: &'static [Symbol],
 }
 
-const OF_WORLD: [Kind; 2] = [Kind::Home, Kind::Server];
+const OF_WORLD: [Kind; 3] = [Kind::Home, Kind::Server, Kind::Panel];
 
-const OF_TYPE: [Kind; 8] = [
+const OF_TYPE: [Kind; 9] = [
     Kind::Unit,
     Kind::Bool,
     Kind::Int,
@@ -30,10 +30,11 @@ const OF_TYPE: [Kind; 8] = [
     Kind::Sham,
     Kind::Home,
     Kind::Server,
+    Kind::Panel,
     Kind::Open,
 ];
 
-const OF_ATOM: [Kind; 12] = [
+const OF_ATOM: [Kind; 13] = [
     Kind::Name,
     Kind::Number,
     Kind::Literal,
@@ -42,13 +43,14 @@ const OF_ATOM: [Kind; 12] = [
     Kind::Here,
     Kind::Home,
     Kind::Server,
+    Kind::Panel,
     Kind::Nil,
     Kind::Open,
     Kind::Let,
     Kind::Case,
 ];
 
-const OF_HEAD: [Kind; 22] = [
+const OF_HEAD: [Kind; 23] = [
     Kind::Fst,
     Kind::Snd,
     Kind::Bang,
@@ -67,13 +69,14 @@ const OF_HEAD: [Kind; 22] = [
     Kind::Here,
     Kind::Home,
     Kind::Server,
+    Kind::Panel,
     Kind::Nil,
     Kind::Open,
     Kind::Let,
     Kind::Case,
 ];
 
-const OF_EXPR: [Kind; 27] = [
+const OF_EXPR: [Kind; 28] = [
     Kind::If,
     Kind::Fn,
     Kind::Rec,
@@ -97,6 +100,7 @@ const OF_EXPR: [Kind; 27] = [
     Kind::Here,
     Kind::Home,
     Kind::Server,
+    Kind::Panel,
     Kind::Nil,
     Kind::Open,
     Kind::Let,

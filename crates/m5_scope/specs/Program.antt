@@ -3,10 +3,9 @@ use Rattle.std.specs.Prelude.{ℕ, ◌+◌, Bool, false, ◌&&◌, if◌then◌e
 use Rattle.std.specs.Str.{bytes_eq}
 use Rattle.m5_lex.specs.declared.place.Place.{Place}
 use Rattle.m5_terms.specs.TypeExpression.{TypeExpression, same_type, same_world}
-use Rattle.m5_terms.specs.Primitives.{primitive_name, primitive_type, primitive_world}
+use Rattle.m5_terms.specs.Primitives.{primitives, primitive_name, primitive_type, primitive_world}
 use Rattle.m5_terms.specs.declared.types.World.{World}
 use Rattle.m5_terms.specs.declared.types.Primitive.{Primitive}
-use Rattle.m5_terms.specs.declared.types.Primitive.TheVariants.{Say, SetText, GetText, On, Read, Write, Watch}
 use Rattle.m5_tree.specs.Syntax.{Syntax}
 use Rattle.m5_tree.specs.declared.tree.Extern as externs
 use Rattle.m5_tree.specs.declared.tree.Function as functions
@@ -31,7 +30,7 @@ first_that test [] = None
 first_that test (p ∷ ps) = if test p then Some p else first_that test ps
 
 abbrev pub primitive_of : Option (List ℕ) → TypeExpression → World → Option Primitive
-primitive_of name ty w = first_that (declares name ty w) (Say ∷ SetText ∷ GetText ∷ On ∷ Read ∷ Write ∷ Watch ∷ [])
+primitive_of name ty w = first_that (declares name ty w) primitives
 
 -- what is declared outside expressions is declared once
 abbrev pub once : {A : Type 0} → Place → Option Meaning → Outcome A → Outcome A

@@ -1,13 +1,18 @@
 -- What one more byte or word does to a field that is being read.
-use Rattle.std.proofs.Common.{◌≡◌, ◌≢◌, ℕ, ◌+◌, ◌≤◌, ◌<◌, List, [], ◌∷◌, ◌++◌, length, take, drop, get_or, Option, Some, None, refl, ap, sym, ◌∙◌, arith, add-one}
-use Rattle.std.specs.List.{slice_split, position_or_len}
+use Rattle.std.proofs.Common.{◌≡◌, ◌≢◌, ℕ, Bool, true, false, cond, IfSome, ◌+◌, ◌≤◌, ◌<◌, List, [], ◌∷◌, ◌++◌, length, take, drop, get_or, Option, Some, None, refl, ap, sym, ◌∙◌, arith, add-one}
+use Rattle.std.specs.List.{slice_split, position_or_len, find, AllByRecursion as Each}
 use Rattle.std.proofs.Math.Seq.{drop-cons}
 use Rattle.std.proofs.lemmas.List.{drop_all, take_all, drop-drop, length-drop}
 use Rattle.std.proofs.lemmas.List.Folds.{length-prefix_len}
 use Rattle.std.proofs.lemmas.List.Elements.{All-push}
 use Rattle.std.proofs.lemmas.List.Sums.{fails_before_first}
 use Rattle.std.proofs.lemmas.List.Splits.{slice_split_first, slice_split_none}
+use Rattle.std.specs.Str.{bytes_eq}
+use Rattle.m5_terms.specs.Worlds.{site_worlds}
+use Rattle.m5_terms.proofs.SiteWorlds.{none-any}
+use Rattle.m5_terms.specs.declared.types.World.{World}
 use Rattle.m5_terms.specs.declared.types.World.TheVariants.{Any}
+use Rattle.m5_script.specs.Trace.{world_word}
 use Rattle.m5_script.specs.declared.items.SiteName.{SiteName}
 use Rattle.m5_script.specs.Fields.{◌>>=◌, is_blank, is_solid, span, before_dot, number_of, site_of, sites_from}
 use Rattle.m5_script.specs.Line.{AreSites}
@@ -23,6 +28,20 @@ two_at s i h =
 
 pub last_at : (s : List ℕ) (i : ℕ) → i < length s → length s ≤ i + 1 → drop i s ≡ get_or s i 0 ∷ []
 last_at s i h k = one_at s i h ∙ ap (λ (r : List ℕ). get_or s i 0 ∷ r) (drop_all (i + 1) s k)
+
+-- ---- worlds
+
+-- what is found in a list without any is not any
+among_real : (test : World → Bool) (ws : List World) → Each (λ (w : World). w ≢ Any) ws → IfSome (find test ws) (λ w. w ≢ Any)
+among_real test [] h = tt
+among_real test (w ∷ ws) h = by (test w)
+  where
+    by : (b : Bool) → IfSome (cond b (Some w) (find test ws)) (λ v. v ≢ Any)
+    by true = h.0
+    by false = among_real test ws h.1
+
+pub named_real : (word : List ℕ) → IfSome (find (λ w. bytes_eq word (world_word w)) site_worlds) (λ w. w ≢ Any)
+named_real word = among_real (λ w. bytes_eq word (world_word w)) site_worlds none-any
 
 -- ---- sites
 

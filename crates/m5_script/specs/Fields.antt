@@ -1,12 +1,13 @@
 -- The words of a script's line, and what they stand for.
-use Rattle.std.specs.Prelude.{◌≡◌, ℕ, ◌+◌, ◌-◌, ◌*◌, Bool, not, ◌||◌, ◌&&◌, ◌==◌, nat_le, min, List, [], ◌∷◌, ◌++◌, length, take, drop, Option, Some, None, if◌then◌else◌, codes}
-use Rattle.std.specs.List.{take_while}
+use Rattle.std.specs.Prelude.{◌≡◌, ℕ, ◌+◌, ◌-◌, ◌*◌, Bool, not, ◌||◌, ◌&&◌, ◌==◌, nat_le, min, List, [], ◌∷◌, ◌++◌, length, take, drop, Option, Some, None, if◌then◌else◌}
+use Rattle.std.specs.List.{find, take_while}
 use Rattle.std.specs.Str.{bytes_eq}
 use Rattle.m5_terms.specs.declared.types.World.{World}
-use Rattle.m5_terms.specs.declared.types.World.TheVariants.{Home, Server}
+use Rattle.m5_terms.specs.Worlds.{site_worlds}
 use Rattle.m5_script.specs.declared.items.SiteName.{SiteName}
 use Rattle.m5_script.specs.declared.form.LineEnd.{LineEnd}
 use Rattle.m5_script.specs.declared.form.LineEnd.TheVariants.{Syntax, Memory}
+use Rattle.m5_script.specs.Trace.{world_word}
 
 infixl 10 ◌>>=◌
 abbrev pub ◌>>=◌ : {A B : Type 0} → Option A → (A → Option B) → Option B
@@ -59,8 +60,9 @@ number_of [] = None
 number_of (first ∷ []) = number_from 0 (first ∷ [])
 number_of (first ∷ second ∷ bytes) = if first == 48 then None else number_from 0 (first ∷ second ∷ bytes)
 
+-- the world of the list that the word is for
 abbrev pub world_of : List ℕ → Option World
-world_of word = if bytes_eq word (codes "home") then Some Home else (if bytes_eq word (codes "server") then Some Server else None)
+world_of word = find (λ w. bytes_eq word (world_word w)) site_worlds
 
 abbrev pub before_dot : ℕ → Bool
 before_dot byte = not (byte == 46)

@@ -3,7 +3,7 @@ use Rattle.std.specs.Prelude.{ℕ, List, [], ◌∷◌, ◌++◌, ◌==◌, if�
 use Rattle.std.specs.List.{flat_map}
 use Rattle.std.specs.Fmt.{decimal}
 use Rattle.m5_terms.specs.declared.types.World.{World}
-use Rattle.m5_terms.specs.declared.types.World.TheVariants.{Home, Server, Any}
+use Rattle.m5_terms.specs.declared.types.World.TheVariants.{Home, Server, Panel, Any}
 use Rattle.m5_terms.specs.declared.ask.Act.{Act}
 use Rattle.m5_terms.specs.declared.ask.Act.TheVariants as act
 use Rattle.m5_terms.specs.declared.ask.Cause.{Cause}
@@ -25,6 +25,7 @@ quoted text = codes "\"" ++ flat_map escaped text ++ codes "\""
 abbrev pub world_word : World → List ℕ
 world_word Home = codes "home"
 world_word Server = codes "server"
+world_word Panel = codes "panel"
 world_word Any = codes "any"
 
 abbrev pub cause_word : Cause → List ℕ
@@ -42,6 +43,7 @@ words_of (act.ReadNone key) = codes "read " ++ quoted key ++ codes " none"
 words_of (act.ReadSome key text) = codes "read " ++ quoted key ++ codes " " ++ quoted text
 words_of (act.Write key text) = codes "write " ++ quoted key ++ codes " " ++ quoted text
 words_of (act.Watch key) = codes "watch " ++ quoted key
+words_of (act.Show text) = codes "show " ++ quoted text
 words_of (act.Send other) = codes "send " ++ world_word other
 words_of (act.Take other) = codes "take " ++ world_word other
 words_of act.Refuse = codes "refuse"

@@ -1,14 +1,18 @@
 //! The words of a script's line, and what they stand for.
 
 ghost use Rattle.std.specs.Prelude.{◌≡◌, ◌≢◌, ◌≤◌, ℕ, List, [], ◌∷◌, length, IfSome, IfOk, IfErr, OnOk, Some};
-ghost use Rattle.std.specs.List.{slice_split};
+ghost use Rattle.std.specs.List.{find, slice_split};
+ghost use Rattle.std.specs.Str.{bytes_eq};
 ghost use Rattle.m5_terms.specs.declared.types.World.TheVariants.{Any};
 ghost use Rattle.m5_script.specs.Fields.{is_blank, is_solid, span, skipped, word_at, before_dot, number_cap, number_from, number_of, world_of, site_of, sites_from, Refuses};
 ghost use Rattle.m5_script.specs.Line.{AreSites};
+ghost use Rattle.m5_script.specs.Trace.{world_word};
 
 use crate::form::LineEnd;
 use crate::items::{SiteName, Sites};
+use crate::words::word_of_world;
 use m5_terms::types::World;
+use m5_terms::worlds::worlds_of_sites;
 use std::alloc::Global;
 
 /// The value of every longer number, which is beyond each limit.
@@ -75,17 +79,29 @@ pub fn number(word: &[u8]) -> Option<u32>
     Some(so_far)
 }
 
+/// The first of these worlds that the word is for.
+fn named_among(worlds: &[World], word: &[u8]) -> Option<World>
+    ensures { result ≡ find (λ w. bytes_eq word.now (world_word w)) worlds.now }
+{
+    match worlds.split_first() {
+        None => None,
+        Some((world, rest)) => {
+            if word == word_of_world(*world) {
+                Some(*world)
+            } else {
+                named_among(rest, word)
+            }
+        }
+    }
+}
+
+/// The world that has sites and that the word is for.
+#[tactic(auto, using(crate::proofs::Scanning::named_real))]
 pub fn world(word: &[u8]) -> Option<World>
     ensures value { result ≡ world_of word.now }
     ensures site { IfSome result (λ w. w ≢ Any) }
 {
-    if word == b"home".as_slice() {
-        Some(World::Home)
-    } else if word == b"server".as_slice() {
-        Some(World::Server)
-    } else {
-        None
-    }
+    named_among(&worlds_of_sites(), word)
 }
 
 /// How many bytes stand before the first dot.

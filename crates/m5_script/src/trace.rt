@@ -71,6 +71,7 @@ fn put_act(out: &mut Vec<u8>, act: &Act) -> Result<(), AllocError>
         Act::ReadSome(key, text) => put_two(out, b"read ", key, text),
         Act::Write(key, text) => put_two(out, b"write ", key, text),
         Act::Watch(key) => put_one(out, b"watch ", key),
+        Act::Show(text) => put_one(out, b"show ", text),
         Act::Send(other) => put_end(out, b"send ", *other),
         Act::Take(other) => put_end(out, b"take ", *other),
         Act::Refuse => out.extend_from_slice(b"refuse"),

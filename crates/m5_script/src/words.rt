@@ -52,14 +52,22 @@ pub fn put_quoted(out: &mut Vec<u8>, text: &Text) -> Result<(), AllocError>
     Ok(())
 }
 
+/// The word for a world.
+pub fn word_of_world(world: World) -> &'static [u8]
+    ensures { result.now ≡ world_word world }
+{
+    match world {
+        World::Home => b"home",
+        World::Server => b"server",
+        World::Panel => b"panel",
+        World::Any => b"any",
+    }
+}
+
 pub fn put_world(out: &mut Vec<u8>, world: World) -> Result<(), AllocError>
     ensures { OnOk result (out.new.items ≡ out.old.items ++ world_word world) }
 {
-    match world {
-        World::Home => out.extend_from_slice(b"home"),
-        World::Server => out.extend_from_slice(b"server"),
-        World::Any => out.extend_from_slice(b"any"),
-    }
+    out.extend_from_slice(word_of_world(world))
 }
 
 /// Adds a session's number and one of its worlds.

@@ -10,12 +10,13 @@ use Rattle.m5_terms.specs.declared.ask.AnswerOf.TheVariants as answer
 use Rattle.m5_meaning.specs.Site.{Item, thread, raw}
 use Rattle.m5_network.specs.Claim.{has_seal}
 use Rattle.m5_network.specs.Entries.{Deed, text_found, read_shown, take_shown, shown, entry_of}
-use Rattle.m5_sound.specs.Settings.{setting}
-use Rattle.m5_sound.specs.Texts.{QueryHasTexts, ReplyHasTexts, DeedHasTexts, ActHasTexts}
+use Rattle.m5_site_sound.specs.Settings.{setting}
+use Rattle.m5_site_sound.specs.Texts.{QueryHasTexts, ReplyHasTexts}
+use Rattle.m5_sound.specs.Texts.{DeedHasTexts, ActHasTexts}
 use Rattle.m5_sound.specs.Laws.{TextsStayTexts}
-use Rattle.m5_sound.proofs.SiteTexts.{site-texts, items-texts}
+use Rattle.m5_site_sound.proofs.SiteTexts.{site-texts, items-texts}
 use Rattle.m5_sound.proofs.Networks.{DeedFine, reached}
-use Rattle.m5_sound.proofs.Growth.{each-map}
+use Rattle.m5_terms.proofs.Lists.{each-map}
 
 found-texts : (r : AnswerOf Item) → ReplyHasTexts r → IsText (text_found r)
 found-texts (answer.Found t) h = h

@@ -17,11 +17,13 @@ use Rattle.m5_meaning.specs.Site.{Program, Item}
 use Rattle.m5_script.specs.declared.items.TextPair.{TextPair}
 use Rattle.m5_script.specs.Scenario.{IsPair}
 use Rattle.m5_network.specs.Board.{Watch, Trigger, Happening, Handling, Desk, Board, text_at, set_at, at_session, at_world, with_link, posted, Answered, text_or_missing, text_or_empty, take_event, take_trigger, take_other, take_from, take_at, answer_of}
-use Rattle.m5_sound.specs.Settings.{setting, Grows}
-use Rattle.m5_sound.specs.Sites.{ItemTyped, QueryTyped, ReplyTyped, IsAnswer}
+use Rattle.m5_site_sound.specs.Settings.{setting, Grows}
+use Rattle.m5_site_sound.specs.Sites.{ItemTyped, QueryTyped, ReplyTyped}
+use Rattle.m5_terms.specs.Answers.{IsAnswer}
 use Rattle.m5_sound.specs.Texts.{DeskHasTexts}
-use Rattle.m5_sound.proofs.Worlds.{by-world}
-use Rattle.m5_sound.proofs.Growth.{more, each-append, items-grown}
+use Rattle.m5_terms.proofs.SiteWorlds.{by-world}
+use Rattle.m5_terms.proofs.Lists.{each-append}
+use Rattle.m5_site_sound.proofs.Growth.{more, items-grown}
 
 -- what a session has on the board is typed
 pub record DeskTyped (E : Setting) (d : Desk Item) : Type 0 where
@@ -136,7 +138,7 @@ trigger-typed P T b s w (r ∷ rs) t h =
 other-typed : (P : Program) (T : ℕ → CellTypes) (b : Board Item) (s : ℕ) (w : World) → BoardTyped P T b → AnswerTyped P T s w (take_other b s w)
 other-typed P T b s Home t = event-typed P T b s Home (b.desks s).events t (t.desks s).texts.events
 other-typed P T b s Server t = trigger-typed P T b s Server (b.desks s).triggers t (t.desks s).texts.triggers
-other-typed P T b s Any t = record { reply_ = tt; board_ = t }
+other-typed P T b s _ t = record { reply_ = tt; board_ = t }
 
 from-typed : (P : Program) (T : ℕ → CellTypes) (b : Board Item) (s : ℕ) (w v : World) (is : List Item) (o : Answered Item) → BoardTyped P T b → Each (ItemTyped (setting P (T s)) w) is → AnswerTyped P T s w o → AnswerTyped P T s w (take_from b s w v is o)
 from-typed P T b s w v [] o t h k = k
@@ -180,6 +182,7 @@ answer-typed P T b s w (ask.Watch k m) n a t = record {
   reply_ = tt;
   board_ = record { pairs = t.pairs; watches = each-append (λ (w : Watch). IsText w.key) b.watches _ t.watches (a.1, tt); desks = t.desks };
 }
+answer-typed P T b s w (ask.Show x) n a t = record { reply_ = tt; board_ = t }
 answer-typed P T b s w (ask.Send v i) n a t = record {
   reply_ = tt;
   board_ = desk-set P T b s _ t (link-set (setting P (T s)) (b.desks s) w v _ (t.desks s) (each-append (ItemTyped (setting P (T s)) v) ((b.desks s).link w v) (i ∷ []) ((t.desks s).links w v a.1) (a.2, tt)));
@@ -211,7 +214,7 @@ trigger-kind b s d (r ∷ rs) n = tt
 other-kind : (b : Board Item) (s : ℕ) (w : World) → SaysWhatComes (take_other b s w)
 other-kind b s Home = event-kind b s (b.desks s) (b.desks s).events
 other-kind b s Server = trigger-kind b s (b.desks s) (b.desks s).triggers
-other-kind b s Any = λ n. absurd (n refl)
+other-kind b s _ = λ n. absurd (n refl)
 
 from-kind : (b : Board Item) (s : ℕ) (w v : World) (is : List Item) (o : Answered Item) → SaysWhatComes o → SaysWhatComes (take_from b s w v is o)
 from-kind b s w v [] o k = k

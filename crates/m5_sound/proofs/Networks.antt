@@ -6,7 +6,7 @@ use Rattle.std.proofs.lemmas.List.Elements.{All-from_recursion, recursion_from_A
 use Rattle.m5_terms.specs.TypeExpression.{unit}
 use Rattle.m5_terms.specs.Text.{IsText}
 use Rattle.m5_terms.specs.declared.types.World.{World}
-use Rattle.m5_terms.specs.declared.types.World.TheVariants.{Home, Server, Any}
+use Rattle.m5_terms.specs.declared.types.World.TheVariants.{Home, Any}
 use Rattle.m5_terms.specs.declared.ask.Cause.{Cause}
 use Rattle.m5_terms.specs.declared.ask.Entry.{Entry}
 use Rattle.m5_terms.specs.declared.types.Primitive.TheVariants as primitive
@@ -27,31 +27,23 @@ use Rattle.m5_network.specs.Board.{Board, Happening, answer_of, at_session, at_w
 use Rattle.m5_network.specs.Entries.{Deed, shown, read_shown, take_shown, entry_of}
 use Rattle.m5_network.specs.Claim.{has_seal, primitive_of, IsAtItsWorld}
 use Rattle.m5_network.specs.Opening.{opening, opening_site, opening_threads, happening}
-use Rattle.m5_network.specs.Run.{Network, Place, NextAsk, Answers, Stops, Makes, Run, with_site}
-use Rattle.m5_sound.specs.Settings.{setting, Grows, GrowsAt}
-use Rattle.m5_sound.specs.Threads.{ThreadTyped}
-use Rattle.m5_sound.specs.Sites.{SiteTyped, ItemTyped, QueryTyped, ReplyTyped, AnswersTyped, NextTyped}
-use Rattle.m5_sound.specs.Texts.{ReplyHasTexts, DeedHasTexts}
+use Rattle.m5_network.specs.Kinds.{NetworkOf, IsStoppedBy, MakesDeed, StepOf, RunOf}
+use Rattle.m5_network.specs.Run.{Network, Place, NextAsk, Answers, Licence, IsLicensed, halted, source_kind, Run, with_site}
+use Rattle.m5_site_sound.specs.Settings.{setting, Grows, GrowsAt}
+use Rattle.m5_site_sound.specs.Threads.{ThreadTyped}
+use Rattle.m5_site_sound.specs.Sites.{SiteTyped, ItemTyped, QueryTyped, ReplyTyped, AnswersTyped, NextTyped}
+use Rattle.m5_site_sound.specs.Texts.{ReplyHasTexts}
+use Rattle.m5_sound.specs.Texts.{DeedHasTexts}
 use Rattle.m5_sound.specs.Networks.{NetworkTyped, ComesTo}
-use Rattle.m5_sound.specs.Laws.{PrimitivesAreAtTheirWorlds, OpeningIsTyped, RunsKeepTypes, AllStaysTyped, EachThreadGoesOn, NoSiteGoesWrong}
-use Rattle.m5_sound.proofs.Worlds.{by-world, is-real}
-use Rattle.m5_sound.proofs.Growth.{more, grows-self, grows-on, own-self, own-on, site-grown, each-map}
-use Rattle.m5_sound.proofs.Steps.{next-typed, declares}
+use Rattle.m5_sound.specs.Laws.{PrimitivesAreAtTheirWorlds, OpeningIsTyped, OpeningIsSound, RunsKeepTypes, AllStaysTyped, EachThreadGoesOn, NoSiteGoesWrong}
+use Rattle.m5_terms.proofs.SiteWorlds.{by-world, is-real}
+use Rattle.m5_terms.proofs.Lists.{each-map}
+use Rattle.m5_site_sound.proofs.Growth.{more, grows-self, grows-on, own-self, own-on, site-grown}
+use Rattle.m5_site_sound.proofs.Steps.{next-typed, declares}
+use Rattle.m5_site_sound.proofs.Onward.{SiteComes, comes-typed, some-inj, not-wrong}
+use Rattle.m5_site_sound.proofs.Soundness.{sites-are-sound}
 use Rattle.m5_sound.proofs.Boards.{BoardTyped, AnswerTyped, at-each, answer-typed, answer-kind, board-grown}
-use Rattle.m5_sound.proofs.SiteTexts.{query-texts, reply-texts}
-
--- what a typed site comes to by local steps
-pub record SiteComes (P : Program) (L : CellTypes) (w : World) (x : Site) : Type 0 where
-  pub to : CellTypes
-  pub grows : GrowsAt w L to
-  pub typed : SiteTyped (setting P to) w x
-
-pub comes-typed : (P : Program) (L : CellTypes) (w : World) (n : ℕ) (s x : Site) → IsProgram P → w ≢ Any → SiteTyped (setting P L) w s → Comes (site_next P w) n s x → SiteComes P L w x
-comes-typed P L w zero s x h r t c = record { to = L; grows = own-self w L; typed = subst (λ y. SiteTyped (setting P L) w y) c t }
-comes-typed P L w (suc n) s x h r t c =
-    let k = subst (λ y. NextTyped (setting P L) w y) c.1 (next-typed P (setting P L) w s (declares P L h) r t) in
-    let d = comes-typed P k.cells w n c.0 x h r k.typed c.2 in
-    record { to = d.to; grows = own-on w L k.cells d.to k.grows d.grows; typed = d.typed }
+use Rattle.m5_site_sound.proofs.SiteTexts.{query-texts, reply-texts}
 
 board-of : (P : Program) (T : ℕ → CellTypes) (N : Network) → NetworkTyped P T N → BoardTyped P T N.board
 board-of P T N t = record { pairs = t.texts.pairs; watches = t.texts.watches; desks = λ s. record { links = t.links s; texts = t.texts.desks s } }
@@ -104,9 +96,6 @@ pub record StepTyped (P : Program) (T : ℕ → CellTypes) (d : Deed Item) (M : 
 grows-one : (T : ℕ → CellTypes) (s : ℕ) (L : CellTypes) → Grows (T s) L → (z : ℕ) → Grows (T z) (at_session s L T z)
 grows-one T s L g z = at-each (λ z K. Grows (T z) K) s L T g (λ z. grows-self (T z)) z
 
-pub some-inj : (a b : Site) → Some a ≡ Some b → a ≡ b
-some-inj a b e = cc
-
 -- a typed site's next ask, and the board's answer to it
 pub record Asked (P : Program) (T : ℕ → CellTypes) (N : Network) (s : ℕ) (w : World) (q : AskOf Item) (resume : AnswerOf Item → Option Site) : Type 0 where
   pub cells : CellTypes
@@ -155,7 +144,7 @@ asked-resumed P T N s w q resume k told =
     let y = k.answers k.cells (answer_of N.board s w q).reply (grows-self k.cells) refl (answer-kind N.board s w q told) k.reply in
     record { site = y.0; is = y.1; typed = y.2 }
 
-answer-step : (P : Program) (T : ℕ → CellTypes) (N M : Network) (s : ℕ) (w : World) (d : Deed Item) → IsProgram P → w ≢ Any → NetworkTyped P T N → Answers P N s w d M → StepTyped P T d M
+pub answer-step : (P : Program) (T : ℕ → CellTypes) (N M : Network) (s : ℕ) (w : World) (d : Deed Item) → IsProgram P → w ≢ Any → NetworkTyped P T N → Answers P N s w d M → StepTyped P T d M
 answer-step P T N M s w d h r t a =
     let k = next-asked P T N s w d.query a.resume h r t a.next in
     let y = asked-resumed P T N s w d.query a.resume k (λ e. a.told (a.reply ∙ e)) in
@@ -171,8 +160,8 @@ answer-step P T N M s w d h r t a =
       };
     }
 
-stop-step : (P : Program) (S : Scenario) (T : ℕ → CellTypes) (N M : Network) (s : ℕ) (w : World) (cause : Cause) (d : Deed Item) → w ≢ Any → NetworkTyped P T N → Stops P S N s w cause d M → StepTyped P T d M
-stop-step P S T N M s w cause d r t a = record {
+pub stop-step : (P : Program) (licensed : Site → Type 0) (T : ℕ → CellTypes) (N M : Network) (s : ℕ) (w : World) (cause : Cause) (d : Deed Item) → w ≢ Any → NetworkTyped P T N → IsStoppedBy licensed halted N s w cause d M → StepTyped P T d M
+stop-step P licensed T N M s w cause d r t a = record {
   to = at_session s (T s) T;
   grows = grows-one T s (T s) (grows-self (T s));
   typed = subst (λ K. NetworkTyped P (at_session s (T s) T) K) (sym a.after)
@@ -180,9 +169,10 @@ stop-step P S T N M s w cause d r t a = record {
   deed = subst DeedFine (sym a.deed) (record { texts = record { query = tt; reply = tt }; world = tt });
 }
 
-makes-step : (P : Program) (S : Scenario) (T : ℕ → CellTypes) (N M : Network) (p : Place) (d : Deed Item) (o : Option Cause) → IsProgram P → p.world ≢ Any → NetworkTyped P T N → Makes P S N p d M o → StepTyped P T d M
-makes-step P S T N M p d None h r t a = answer-step P T N M p.session p.world d h r t a
-makes-step P S T N M p d (Some cause) h r t a = stop-step P S T N M p.session p.world cause d r t a
+-- whatever licenses its stop
+makes-step : (P : Program) (licensed : Licence) (T : ℕ → CellTypes) (N M : Network) (p : Place) (d : Deed Item) (o : Option Cause) → IsProgram P → p.world ≢ Any → NetworkTyped P T N → MakesDeed (source_kind P licensed) N p d M o → StepTyped P T d M
+makes-step P licensed T N M p d None h r t a = answer-step P T N M p.session p.world d h r t a
+makes-step P licensed T N M p d (Some cause) h r t a = stop-step P (licensed p.session p.world cause) T N M p.session p.world cause d r t a
 
 -- a whole run
 pub record RunTyped (P : Program) (T : ℕ → CellTypes) (ds : List (Deed Item)) (M : Network) : Type 0 where
@@ -191,14 +181,17 @@ pub record RunTyped (P : Program) (T : ℕ → CellTypes) (ds : List (Deed Item)
   pub typed : NetworkTyped P to M
   pub deeds : Each DeedFine ds
 
-pub run-typed : (P : Program) (S : Scenario) (N M : Network) (ps : List Place) (ds : List (Deed Item)) (T : ℕ → CellTypes) → IsProgram P → Run P S N ps ds M → NetworkTyped P T N → RunTyped P T ds M
-run-typed P S N M [] [] T h r t = record { to = T; grows = λ s. grows-self (T s); typed = subst (λ K. NetworkTyped P T K) (sym r) t; deeds = tt }
-run-typed P S N M [] (d ∷ ds) T h r t = absurd r
-run-typed P S N M (p ∷ ps) [] T h r t = absurd r
-run-typed P S N M (p ∷ ps) (d ∷ ds) T h r t =
-    let k = makes-step P S T N r.0 p d p.cause h (is-real p.world r.1.site.world) t r.1.makes in
-    let l = run-typed P S r.0 M ps ds k.to h r.2 k.typed in
+pub runs-typed : (P : Program) (licensed : Licence) (n : ℕ) (N M : Network) (ps : List Place) (ds : List (Deed Item)) (T : ℕ → CellTypes) → IsProgram P → RunOf (source_kind P licensed) n N ps ds M → NetworkTyped P T N → RunTyped P T ds M
+runs-typed P licensed n N M [] [] T h r t = record { to = T; grows = λ s. grows-self (T s); typed = subst (λ K. NetworkTyped P T K) (sym r) t; deeds = tt }
+runs-typed P licensed n N M [] (d ∷ ds) T h r t = absurd r
+runs-typed P licensed n N M (p ∷ ps) [] T h r t = absurd r
+runs-typed P licensed n N M (p ∷ ps) (d ∷ ds) T h r t =
+    let k = makes-step P licensed T N r.0 p d p.cause h (is-real p.world r.1.site.world) t r.1.makes in
+    let l = runs-typed P licensed n r.0 M ps ds k.to h r.2 k.typed in
     record { to = l.to; grows = λ s. grows-on (T s) (k.to s) (l.to s) (k.grows s) (l.grows s); typed = l.typed; deeds = (k.deed, l.deeds) }
+
+pub run-typed : (P : Program) (S : Scenario) (N M : Network) (ps : List Place) (ds : List (Deed Item)) (T : ℕ → CellTypes) → IsProgram P → Run P S N ps ds M → NetworkTyped P T N → RunTyped P T ds M
+run-typed P S N M ps ds T h r t = runs-typed P (λ s w cause x. IsLicensed P S w cause x) S.sessions N M ps ds T h r t
 
 pub keeps-types : RunsKeepTypes
 keeps-types P S N M ps ds T h r t = let k = run-typed P S N M ps ds T h r t in (k.to, k.grows, k.typed)
@@ -211,8 +204,7 @@ raws-typed E w (r ∷ rs) = (tt, raws-typed E w rs)
 
 opening-typed : (P : Program) → IsProgram P → (w : World) → SiteTyped (setting P (λ w. [])) w (opening_site (opening_threads P w))
 opening-typed P h Home = ((record { of = unit; stands = inl refl; typed = h.main; frames = refl }, tt), tt, tt)
-opening-typed P h Server = (tt, tt, tt)
-opening-typed P h Any = (tt, tt, tt)
+opening-typed P h _ = (tt, tt, tt)
 
 pub opening-is-typed : OpeningIsTyped
 opening-is-typed P S h k = record {
@@ -234,6 +226,9 @@ opening-is-typed P S h k = record {
     IsTold : Happening → Type 0
     IsTold e = IsText e.element × IsText e.text
 
+pub opening-is-sound : OpeningIsSound
+opening-is-sound P S s w h k r = sites-are-sound P (λ v. []) w _ h r ((opening-is-typed P S h k).sites s w r)
+
 -- what a site comes to along a run
 
 pub record Reached (P : Program) (s : ℕ) (w : World) (x : Site) (ds : List (Deed Item)) (N : Network) : Type 0 where
@@ -253,11 +248,6 @@ pub all-stays : AllStaysTyped
 all-stays P S ps ds N s w x c =
     let k = reached P S ps ds N s w x c in
     (at_session s k.comes.to k.of, placed P k.of N s w k.comes.to x N.board k.comes.grows k.comes.typed k.network (board-grown P k.of s k.comes.to N.board k.comes.grows.0 (board-of P k.of N k.network)))
-
-pub not-wrong : (E : Setting) (u : World) (x : SiteNext) → NextTyped E u x → x ≢ wrong
-not-wrong E u (goes s) t e = cc
-not-wrong E u (asks q f) t e = cc
-not-wrong E u wrong t e = t.typed
 
 pub no-wrong : NoSiteGoesWrong
 no-wrong P S ps ds N s w x c =

@@ -18,14 +18,14 @@ use Rattle.m5_network.specs.Board.{Board, text_at, text_or_missing, text_or_empt
 use Rattle.m5_network.specs.Entries.{Deed}
 use Rattle.m5_network.specs.Opening.{opening}
 use Rattle.m5_network.specs.Run.{Network, IsSite, NextAsk, IsLicensed, IsAtRest, Step, with_site}
-use Rattle.m5_sound.specs.Settings.{setting}
-use Rattle.m5_sound.specs.Sites.{SiteTyped, NextTyped}
+use Rattle.m5_site_sound.specs.Settings.{setting}
+use Rattle.m5_site_sound.specs.Sites.{SiteTyped, NextTyped}
 use Rattle.m5_sound.specs.Networks.{NetworkTyped}
 use Rattle.m5_sound.specs.Laws.{SomethingCanHappen}
-use Rattle.m5_sound.proofs.Worlds.{is-real}
-use Rattle.m5_sound.proofs.Steps.{next-typed, declares}
+use Rattle.m5_terms.proofs.SiteWorlds.{is-real}
+use Rattle.m5_site_sound.proofs.Steps.{next-typed, declares}
 use Rattle.m5_sound.proofs.Networks.{run-typed, opening-is-typed, next-asked, asked-resumed}
-use Rattle.m5_sound.proofs.Counts.{CountsOne, next-counts}
+use Rattle.m5_site_sound.proofs.Counts.{CountsOne, next-counts}
 
 -- one local step more
 comes-on : (P : Program) (w : World) (n : ℕ) (s t u : Site) → Comes (site_next P w) n s t → site_next P w t ≡ goes u → Comes (site_next P w) (suc n) s u

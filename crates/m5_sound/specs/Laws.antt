@@ -5,6 +5,9 @@ use Rattle.m5_terms.specs.declared.types.World.{World}
 use Rattle.m5_terms.specs.declared.types.World.TheVariants.{Any}
 use Rattle.m5_terms.specs.declared.ask.Cause.{Cause}
 use Rattle.m5_terms.specs.declared.ask.Entry.{Entry}
+use Rattle.m5_terms.specs.declared.ask.AskOf.{AskOf}
+use Rattle.m5_terms.specs.declared.ask.AnswerOf.{AnswerOf}
+use Rattle.m5_terms.specs.declared.ask.AnswerOf.TheVariants as answer
 use Rattle.m5_typing.specs.Context.{CellTypes}
 use Rattle.m5_typing.specs.Program.{IsProgram}
 use Rattle.m5_terms.specs.Machine.{wrong, IsSound}
@@ -14,22 +17,18 @@ use Rattle.m5_script.specs.Scenario.{Scenario, IsScript}
 use Rattle.m5_network.specs.Entries.{Deed, entry_of}
 use Rattle.m5_network.specs.Claim.{has_seal, primitive_of, IsAtItsWorld}
 use Rattle.m5_network.specs.Opening.{opening}
-use Rattle.m5_network.specs.Run.{Network, Place, IsSite, IsAtRest, Step, Run}
-use Rattle.m5_sound.specs.Settings.{setting, Grows}
-use Rattle.m5_sound.specs.Sites.{SiteTyped, NextTyped}
+use Rattle.m5_network.specs.Board.{answer_of}
+use Rattle.m5_network.specs.Kinds.{RunOf}
+use Rattle.m5_network.specs.Run.{Network, Place, IsSite, NextAsk, Licence, IsLicensed, source_kind, IsAtRest, Step, Run}
+use Rattle.m5_site_sound.specs.Settings.{setting, Grows}
+use Rattle.m5_site_sound.specs.Sites.{SiteTyped, NextTyped}
 use Rattle.m5_sound.specs.Networks.{NetworkTyped, ComesTo, moved}
-use Rattle.m5_sound.specs.SourceMachine.{source_machine}
-use Rattle.m5_sound.specs.Texts.{SiteHasTexts, DeedHasTexts, ActHasTexts, BoardHasTexts, LinkHasTexts}
+use Rattle.m5_site_sound.specs.SourceMachine.{IsLawful, source_machine}
+use Rattle.m5_sound.specs.Numbers.{BoardNumbered, counts_of}
+use Rattle.m5_site_sound.specs.Texts.{SiteHasTexts}
+use Rattle.m5_sound.specs.Texts.{DeedHasTexts, ActHasTexts, BoardHasTexts, LinkHasTexts}
 
--- what a typed site does next is a step to a typed site or a typed ask
-abbrev pub TypedSitesGoOn : Type 0
-TypedSitesGoOn = (P : Program) (L : CellTypes) (u : World) (x : Site) → IsProgram P → u ≢ Any → SiteTyped (setting P L) u x → NextTyped (setting P L) u (site_next P u x)
-
--- and no lawful answers ever lead it to where the rules allow nothing
-abbrev pub TypedSitesAreSound : Type 0
-TypedSitesAreSound = (P : Program) (L : CellTypes) (w : World) (s : Site) → IsProgram P → w ≢ Any → SiteTyped (setting P L) w s → IsSound (source_machine P w) s
-
--- so it is with each site of a program's opening
+-- no lawful answers ever lead a site of a program's opening to where the rules allow nothing
 abbrev pub OpeningIsSound : Type 0
 OpeningIsSound = (P : Program) (S : Scenario) (s : ℕ) (w : World) → IsProgram P → IsScript S → w ≢ Any → IsSound (source_machine P w) ((opening P S).site s w)
 
@@ -86,3 +85,24 @@ pub record AllTexts (N : Network) (x : Site) (ds : List (Deed Item)) : Type 0 wh
 abbrev pub TextsStayTexts : Type 0
 TextsStayTexts =
     (P : Program) (S : Scenario) (ps : List Place) (ds : List (Deed Item)) (N : Network) (s : ℕ) (w : World) (x : Site) → ComesTo P S ps ds N s w x → AllTexts N x ds
+
+-- what licenses the stops of a program's sites under a script
+abbrev pub Stops : Type 1
+Stops = Program → Scenario → Licence
+
+-- the licences of the script's numbers
+abbrev pub own_stops : Stops
+own_stops P S = λ s w cause x. IsLicensed P S w cause x
+
+-- after each run of a program, whatever licenses its stops, the board names handlers that the sites have, and no element's twice
+abbrev pub NumbersStayRight : Stops → Type 0
+NumbersStayRight licensed =
+    (P : Program) (S : Scenario) (ps : List Place) (ds : List (Deed Item)) (N : Network) → IsProgram P → IsScript S → RunOf (source_kind P (licensed P S)) S.sessions (opening P S) ps ds N →
+    BoardNumbered (counts_of N) N.board
+
+-- and what the board answers to a site's next ask is lawful
+abbrev pub AnswersAreLawful : Stops → Type 0
+AnswersAreLawful licensed =
+    (P : Program) (S : Scenario) (ps : List Place) (ds : List (Deed Item)) (N : Network) (s : ℕ) (w : World) (q : AskOf Item) (resume : AnswerOf Item → Option Site) → IsProgram P → IsScript S →
+    RunOf (source_kind P (licensed P S)) S.sessions (opening P S) ps ds N → IsSite S s w → (a : NextAsk P w (N.site s w) q resume) → (answer_of N.board s w q).reply ≢ answer.Nothing →
+    IsLawful P w a.waiting (answer_of N.board s w q).reply

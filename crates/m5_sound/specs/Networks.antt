@@ -12,8 +12,8 @@ use Rattle.m5_script.specs.Scenario.{Scenario, IsScript}
 use Rattle.m5_network.specs.Entries.{Deed}
 use Rattle.m5_network.specs.Opening.{opening}
 use Rattle.m5_network.specs.Run.{Network, Place, IsSite, Run, with_site}
-use Rattle.m5_sound.specs.Settings.{setting}
-use Rattle.m5_sound.specs.Sites.{SiteTyped, ItemTyped}
+use Rattle.m5_site_sound.specs.Settings.{setting}
+use Rattle.m5_site_sound.specs.Sites.{SiteTyped, ItemTyped}
 use Rattle.m5_sound.specs.Texts.{BoardHasTexts}
 
 -- by the types T of each session's cells, sites and links are typed; no site has the world any

@@ -1,18 +1,8 @@
 //! The laws of typed runs, each on a function that does nothing.
 
-ghost use Rattle.m5_sound.specs.Laws.{TypedSitesGoOn, TypedSitesAreSound, OpeningIsSound, OpeningIsTyped, RunsKeepTypes, AllStaysTyped, EachThreadGoesOn, NoSiteGoesWrong, SomethingCanHappen, PrimitivesAreAtTheirWorlds, TextsStayTexts};
+ghost use Rattle.m5_sound.specs.Laws.{OpeningIsSound, OpeningIsTyped, RunsKeepTypes, AllStaysTyped, EachThreadGoesOn, NoSiteGoesWrong, SomethingCanHappen, PrimitivesAreAtTheirWorlds, TextsStayTexts, Stops, own_stops, NumbersStayRight, AnswersAreLawful};
 
-/// A typed site's next step or ask is typed.
-pub fn typed_sites_go_on_holds()
-    ensures { TypedSitesGoOn }
-{}
-
-/// No lawful answers lead a typed site to where the rules allow nothing.
-pub fn typed_sites_are_sound_holds()
-    ensures { TypedSitesAreSound }
-{}
-
-/// So it is with each site of a program's opening.
+/// No lawful answers lead a site of a program's opening to where the rules allow nothing.
 pub fn opening_is_sound_holds()
     ensures { OpeningIsSound }
 {}
@@ -55,4 +45,25 @@ pub fn primitives_are_at_their_worlds_holds()
 /// Along each run of a program texts have only the bytes of texts.
 pub fn texts_stay_texts_holds()
     ensures { TextsStayTexts }
+{}
+
+/// A condition of stops, whichever it is.
+pub trait StopCondition {
+    ghost licensed: { Stops };
+}
+
+/// Along each run of a program, whatever licenses its stops, the board names handlers that the sites have, and none twice.
+pub fn numbers_stay_right_holds<C: StopCondition>()
+    ensures { NumbersStayRight C.licensed }
+{}
+
+/// Along each run of a program, whatever licenses its stops, what the board answers to a site is lawful.
+pub fn answers_are_lawful_holds<C: StopCondition>()
+    ensures { AnswersAreLawful C.licensed }
+{}
+
+/// So it is with the stops that the script's numbers license.
+pub fn own_stops_keep_numbers_holds()
+    ensures numbers { NumbersStayRight own_stops }
+    ensures answers { AnswersAreLawful own_stops }
 {}

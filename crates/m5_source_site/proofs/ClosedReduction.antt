@@ -75,6 +75,7 @@ extern-closed : (p : Primitive) (v : Expression) → IsClosed v → IsClosedRedu
 extern-closed primitive.On (binary binary_form.Pair (leaf (leaf_form.Str e)) k) h = right true _ h
 extern-closed primitive.Watch (binary binary_form.Pair (leaf (leaf_form.Str e)) k) h = right true _ h
 extern-closed primitive.Say (leaf (leaf_form.Str t)) h = tt
+extern-closed primitive.Show (leaf (leaf_form.Str t)) h = tt
 extern-closed primitive.SetText (binary binary_form.Pair (leaf (leaf_form.Str e)) (leaf (leaf_form.Str t))) h = tt
 extern-closed primitive.GetText (leaf (leaf_form.Str e)) h = tt
 extern-closed primitive.Read (leaf (leaf_form.Str k)) h = tt

@@ -18,7 +18,7 @@ use Rattle.m5_terms.specs.declared.thread.Focus.TheVariants.{Eval, Returned}
 use Rattle.m5_terms.specs.Asks.{Query, on, watch, Reply, done, found, missing, message, fired, event}
 use Rattle.m5_meaning.specs.Parts.{parts, part, fill, inner_world, unary_parts, binary_parts}
 use Rattle.m5_meaning.specs.Site.{Program, Thread, Site, Item, thread, raw}
-use Rattle.m5_meaning.specs.Reduction.{Reduced, gives, makes_text, goes_on, makes_cell, loads, stores, leaves, says, sets, writes, gets, reads, handles, watches, reduced, unit_value}
+use Rattle.m5_meaning.specs.Reduction.{Reduced, gives, makes_text, goes_on, makes_cell, loads, stores, leaves, says, shows, sets, writes, gets, reads, handles, watches, reduced, unit_value}
 use Rattle.m5_meaning.specs.Reduction as reduction
 use Rattle.m5_meaning.specs.Step.{SiteNext, thread_of, stepped, is_full, stopped_by, stops_full, atom, loaded, stored, after_done, after_get_text, after_read, adds_handler, outcome, part_begun, evaluated, returned, focused, handler_thread, handler_threads, begun, after_take, front}
 use Rattle.m5_source_site.specs.ClosedSite.{IsClosedFrame, IsClosedFocus, IsClosedThread, IsClosedSite, IsClosedProgram, IsClosedQuery, IsClosedReply, IsClosedNext, StaysClosed}
@@ -105,6 +105,7 @@ outcome-closed P u s ts fs w (loads n) c h m k = loaded-closed P s ts fs w (slic
 outcome-closed P u s ts fs w (stores n v) c h m k = stored-closed P s ts fs w n v (slice_get s.cells n) k h m c
 outcome-closed P u s ts fs w (leaves v e) c h m k = (record { frames = All-cons IsClosedFrame (Return w) fs tt m; focus = k }, told P s ts h c)
 outcome-closed P u s ts fs w (says t) c h m k = (tt, told P s _ (unit-back ts fs w h m) c)
+outcome-closed P u s ts fs w (shows t) c h m k = (tt, told P s _ (unit-back ts fs w h m) c)
 outcome-closed P u s ts fs w (sets e t) c h m k = (tt, told P s _ (unit-back ts fs w h m) c)
 outcome-closed P u s ts fs w (writes e t) c h m k = (tt, told P s _ (unit-back ts fs w h m) c)
 outcome-closed P u s ts fs w (gets e) c h m k = (tt, got-text P s ts fs w h m c)

@@ -15,6 +15,7 @@ reduction_of (reduced.Loads n) = reduction.loads n
 reduction_of (reduced.Stores n v) = reduction.stores n v
 reduction_of (reduced.Leaves w e) = reduction.leaves w e
 reduction_of (reduced.Says t) = reduction.says t
+reduction_of (reduced.Shows t) = reduction.shows t
 reduction_of (reduced.Sets e t) = reduction.sets e t
 reduction_of (reduced.Writes k t) = reduction.writes k t
 reduction_of (reduced.Gets e) = reduction.gets e

@@ -7,7 +7,7 @@ use Rattle.m5_terms.specs.Asks as asks
 use Rattle.m5_meaning.specs.Site.{Program, Thread, Site, Item}
 use Rattle.m5_meaning.specs.Site as item
 use Rattle.m5_meaning.specs.Step.{SiteNext, is_full, after_done, after_get_text, after_read, after_take, stopped_by}
-use Rattle.m5_meaning.specs.Reduction.{Reduced, makes_cell, leaves, says, sets, writes, gets, reads, handles, watches}
+use Rattle.m5_meaning.specs.Reduction.{Reduced, makes_cell, leaves, says, shows, sets, writes, gets, reads, handles, watches}
 use Rattle.m5_source_site.specs.ClosedSite.{IsClosedSite, IsClosedQuery, IsClosedReply}
 use Rattle.m5_source_site.specs.declared.query.SiteItem.{SiteItem}
 use Rattle.m5_source_site.specs.declared.query.SiteItem.TheVariants as site_item
@@ -80,6 +80,7 @@ lacks_place s _ = false
 abbrev pub IsAsk : Reduced → Type 0
 IsAsk (leaves w e) = Unit {0}
 IsAsk (says t) = Unit {0}
+IsAsk (shows t) = Unit {0}
 IsAsk (sets e t) = Unit {0}
 IsAsk (writes k t) = Unit {0}
 IsAsk (gets e) = Unit {0}

@@ -20,6 +20,7 @@ fn with_text(alloc: Global, primitive: Prim, text: &Text) -> Result<Reduced, All
 {
     match primitive {
         Prim::Say => Ok(Reduced::Says(text.copy(alloc)?)),
+        Prim::Show => Ok(Reduced::Shows(text.copy(alloc)?)),
         Prim::GetText => Ok(Reduced::Gets(text.copy(alloc)?)),
         Prim::Read => Ok(Reduced::Reads(text.copy(alloc)?)),
         Prim::SetText | Prim::On | Prim::Write | Prim::Watch => Ok(Reduced::Wrong),
@@ -50,7 +51,7 @@ fn with_name(
             }
             _ => Ok(Reduced::Wrong),
         },
-        Prim::Say | Prim::GetText | Prim::Read => Ok(Reduced::Wrong),
+        Prim::Say | Prim::GetText | Prim::Read | Prim::Show => Ok(Reduced::Wrong),
     }
 }
 

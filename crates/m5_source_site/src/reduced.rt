@@ -16,6 +16,7 @@ pub enum Reduced {
     Stores(u32, Node),
     Leaves(World, Node),
     Says(Text),
+    Shows(Text),
     Sets(Text, Text),
     Writes(Text, Text),
     Gets(Text),

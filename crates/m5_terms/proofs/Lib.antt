@@ -1,8 +1,11 @@
-pub mod Diagrams
-pub mod Passes
+pub mod Lists
+pub mod SiteWorlds
 pub mod Rests
 pub mod Digits
 pub mod Quoting
 pub mod PerWorlds
-pub mod SiteWorlds
 pub mod Tables
+pub mod Matched
+pub mod Lifted
+pub mod Chained
+pub mod Played

@@ -1,7 +1,8 @@
--- Worlds that are one or two, and the list of those that have sites.
-use Rattle.std.proofs.Common.{◌≡◌, ◌≢◌, Bool, true, false, refl, sym, subst, arith}
+-- Tests of worlds, and the worlds that have sites.
+use Rattle.std.proofs.Common.{◌≡◌, ◌≢◌, Bool, true, false, List, [], ◌∷◌, refl, sym, subst, arith}
 use Rattle.std.proofs.lemmas.List.Elements.{All-contains, All-from_recursion}
 use Rattle.std.specs.Prelude.{All}
+use Rattle.std.specs.List.{AllByRecursion as Each}
 use Rattle.m5_terms.specs.TypeExpression.{same_world}
 use Rattle.m5_terms.specs.Worlds.{site_worlds, IsSiteWorld}
 use Rattle.m5_terms.specs.declared.types.World.{World}
@@ -31,14 +32,15 @@ by-world P v w f g = by (same_world v w) (same-true v w) (same-false v w)
     by true e n = f (e refl)
     by false e n = g (n refl)
 
-none-any : All (λ (w : World). w ≢ Any) site_worlds
-none-any = All-from_recursion (λ (w : World). w ≢ Any) site_worlds (λ e. cc, (λ e. cc, (λ e. cc, tt)))
+-- none of them is any
+pub none-any : Each (λ (w : World). w ≢ Any) site_worlds
+none-any = (λ e. cc, (λ e. cc, (λ e. cc, tt)))
 
 -- no site stands at any
 pub is-real : (w : World) → IsSiteWorld w → w ≢ Any
-is-real w i = All-contains (λ (v : World). v ≢ Any) site_worlds w none-any i
+is-real w i = All-contains (λ (v : World). v ≢ Any) site_worlds w (All-from_recursion (λ (v : World). v ≢ Any) site_worlds none-any) i
 
--- each other world has sites
+-- a site stands at each other world
 pub has-site : (w : World) → w ≢ Any → IsSiteWorld w
 has-site Home n = (0, omega arith, refl)
 has-site Server n = (1, omega arith, refl)
@@ -48,3 +50,11 @@ has-site Any n = absurd (n refl)
 -- what holds of each world of the list holds of each world that is not any
 pub at-each : (P : World → Type 0) → All P site_worlds → (w : World) → w ≢ Any → P w
 at-each P h w n = All-contains P site_worlds w h (has-site w n)
+
+-- what holds of each world that is not any holds of each that has sites
+pub each-real : (Q : World → Type 0) → ((w : World) → w ≢ Any → Q w) → Each Q site_worlds
+each-real Q f = each site_worlds none-any
+  where
+    each : (ws : List World) → Each (λ (w : World). w ≢ Any) ws → Each Q ws
+    each [] h = tt
+    each (w ∷ ws) h = (f w h.0, each ws h.1)

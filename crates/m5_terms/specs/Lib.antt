@@ -14,8 +14,10 @@ pub mod PerWorldLaws
 pub mod Seal
 pub mod Text
 pub mod Machine
-pub mod Keeping
-pub mod Diagram
+pub mod Matching
+pub mod Playing
+pub mod Related
+pub mod Answers
 pub mod CountsDown
 pub mod InText
 pub mod Outcome

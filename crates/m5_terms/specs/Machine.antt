@@ -1,5 +1,5 @@
 -- Machines that go by local steps to their next ask, which carries what each answer makes of them, and their behaviours.
-use Rattle.std.specs.Prelude.{◌≡◌, ℕ, zero, suc, Bool, List, [], ◌∷◌, Option, Some}
+use Rattle.std.specs.Prelude.{◌≡◌, ℕ, zero, suc, List, [], ◌∷◌, Option, Some}
 
 -- what a state does next: a local step, an ask with what each answer makes of the state, or nothing that the rules allow
 pub data Next (State Ask Answer : Type 0) : Type 0 where
@@ -12,16 +12,13 @@ abbrev pub Comes : {State Ask Answer : Type 0} → (State → Next State Ask Ans
 Comes next zero s t = s ≡ t
 Comes {State} {Ask} {Answer} next (suc n) s t = (m : State) × (next s ≡ goes m) × Comes next n m t
 
--- a kind of machine; `lawful` says which answers may come where a state asks, `count` how many steps it made or blocks it
--- entered, and `enters` whether it is about to enter a block
+-- a kind of machine; `lawful` says which answers may come where a state asks
 pub record Machine : Type 1 where
   pub State : Type 0
   pub Ask : Type 0
   pub Answer : Type 0
   pub next : State → Next State Ask Answer
   pub lawful : State → Answer → Type 0
-  pub count : State → ℕ
-  pub enters : State → Bool
 
 -- an ask with its answer
 pub record Exchange (M : Machine) : Type 0 where
@@ -55,7 +52,7 @@ pub record Fails (M : Machine) (from : M.State) : Type 0 where
   pub exchanges : List (Exchange M)
   pub at : M.State
   pub behaves : Behaves M exchanges from at
-  pub wrong_ : GoesWrong M at
+  pub goes_wrong : GoesWrong M at
 
 -- no lawful behaviour goes wrong
 abbrev pub IsSound : (M : Machine) → M.State → Type 0

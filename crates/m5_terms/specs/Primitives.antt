@@ -1,10 +1,16 @@
 -- The primitives' names, types and worlds.
-use Rattle.std.specs.Prelude.{ℕ, List, codes}
+use Rattle.std.specs.Prelude.{ℕ, List, [], ◌∷◌, codes}
 use Rattle.m5_terms.specs.declared.types.World.{World}
 use Rattle.m5_terms.specs.declared.types.World.TheVariants.{Home, Server, Panel}
 use Rattle.m5_terms.specs.TypeExpression.{TypeExpression, unit, string, product, sum, function}
 use Rattle.m5_terms.specs.declared.types.Primitive.{Primitive}
 use Rattle.m5_terms.specs.declared.types.Primitive.TheVariants as primitive
+
+-- all primitives, in the order of their codes
+abbrev pub primitives : List Primitive
+primitives =
+    primitive.Say ∷ primitive.SetText ∷ primitive.GetText ∷ primitive.On
+    ∷ primitive.Read ∷ primitive.Write ∷ primitive.Watch ∷ primitive.Show ∷ []
 
 -- where a primitive may be used
 abbrev pub primitive_world : Primitive → World

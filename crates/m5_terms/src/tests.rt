@@ -1,12 +1,12 @@
 //! Each call that takes memory, with memory to spare, and what no clause spells out.
 
 ghost use Rattle.m5_terms.specs.Keeping.{AtLeast};
-ghost use Rattle.m5_terms.specs.CountsDown.{counts, less_one, sooner, owes_nothing};
+ghost use Rattle.m5_terms.specs.CountsDown.{counts, less_one, sooner, at_zero, no_later, by_two_matches, by_two_is_met};
 
 use crate::ask::{Answer, Ask, Numbers};
 use crate::form::{BinaryForm, LeafForm, UnaryForm};
-use crate::keeping;
 use crate::listed::Listed;
+use crate::matching;
 use crate::node::{Node, NodeBox};
 use crate::opened::{LeafView, Opened};
 use crate::primitives::extern_of;
@@ -90,21 +90,25 @@ fn knows_the_primitives(rt: HostRuntime) -> Result<(), Fail> {
 
 struct ByTwo;
 
-impl keeping::Pass for ByTwo {
+impl matching::Pass for ByTwo {
     ghost input = { counts (λ n. n) };
 
     ghost output = { counts less_one };
 
     ghost reading = { sooner (λ n. n) less_one };
 
-    ghost fitting = { λ t s n m. Unit {0} };
+    ghost input_moments = { at_zero (λ n. n) };
 
-    ghost entry = { AtLeast (counts (λ n. n)) (counts less_one) };
+    ghost output_moments = { at_zero less_one };
 
-    ghost diagram = { owes_nothing };
+    ghost meeting = { no_later (λ n. n) less_one };
+
+    ghost matches = { by_two_matches };
+
+    ghost met = { by_two_is_met };
 }
 
-impl keeping::TwoPasses for ByTwo {
+impl matching::TwoPasses for ByTwo {
     ghost first = { counts (λ n. n) };
 
     ghost second = { counts less_one };
@@ -114,11 +118,21 @@ impl keeping::TwoPasses for ByTwo {
     ghost over = { sooner (λ n. n) less_one };
 
     ghost under = { sooner less_one less_one };
+
+    ghost first_moments = { at_zero (λ n. n) };
+
+    ghost second_moments = { at_zero less_one };
+
+    ghost third_moments = { at_zero less_one };
+
+    ghost met_over = { no_later (λ n. n) less_one };
+
+    ghost met_under = { no_later less_one less_one };
 }
 
 #[test]
-fn counting_by_two_keeps_behaviours(_rt: HostRuntime) {
-    keeping::diagram_keeps_holds::<ByTwo>();
-    keeping::sound_input_is_kept_holds::<ByTwo>();
-    keeping::two_passes_keep_holds::<ByTwo>();
+fn counting_by_two_plays_along(_rt: HostRuntime) {
+    matching::matching_plays_holds::<ByTwo>();
+    matching::sound_input_is_played_holds::<ByTwo>();
+    matching::two_passes_match_holds::<ByTwo>();
 }

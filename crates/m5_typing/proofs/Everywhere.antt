@@ -4,7 +4,7 @@ use Rattle.m5_terms.specs.Expression.{Expression, leaf, unary, binary, ternary}
 use Rattle.m5_terms.specs.TypeExpression.{TypeExpression, address, function, list, at}
 use Rattle.m5_terms.specs.Primitives.{primitive_world}
 use Rattle.m5_terms.specs.declared.types.World.{World}
-use Rattle.m5_terms.specs.declared.types.World.TheVariants.{Home, Server, Any}
+use Rattle.m5_terms.specs.declared.types.World.TheVariants.{Any}
 use Rattle.m5_terms.specs.declared.types.Primitive.{Primitive}
 use Rattle.m5_terms.specs.declared.types.Primitive.TheVariants as primitive
 use Rattle.m5_terms.specs.declared.form.LeafForm.{LeafForm}
@@ -42,21 +42,15 @@ lifts-valid u (Some (local w A)) p h b e = cc
 lifts-valid u (Some (valid A)) p h b e = rw (h (valid A) refl) e
 
 real : (u v : World) → v ≢ Any → at_world u v ≡ v
-real u Home n = refl
-real u Server n = refl
 real u Any n = absurd (n refl)
+real u _ n = refl
 
 real-is : (u w v : World) → v ≢ Any → w ≡ v → at_world u w ≡ v
 real-is u w v n e = subst (λ x. at_world u x ≡ v) (sym e) (real u v n)
 
 ext-real : (p : Primitive) → primitive_world p ≢ Any
 ext-real primitive.Say e = cc
-ext-real primitive.On e = cc
-ext-real primitive.Read e = cc
-ext-real primitive.SetText e = cc
-ext-real primitive.GetText e = cc
-ext-real primitive.Write e = cc
-ext-real primitive.Watch e = cc
+ext-real _ e = cc
 
 known-lifts : (o : Option Bound) (u w : World) (A : TypeExpression) → IsKnownAt o w A → IsKnownAt o (at_world u w) A
 known-lifts o u w A (inl e) = subst (λ x. IsKnownAt o x A) (sym (real u w e.0)) (inl e)

@@ -28,12 +28,7 @@ is-mobile A B e m = subst (λ C. IsTrue (mobile C)) e m
 
 primitive-stays : (p : Primitive) → IsTrue (mobile (primitive_type p)) → ⊥
 primitive-stays primitive.Say m = cc
-primitive-stays primitive.SetText m = cc
-primitive-stays primitive.GetText m = cc
-primitive-stays primitive.On m = cc
-primitive-stays primitive.Read m = cc
-primitive-stays primitive.Write m = cc
-primitive-stays primitive.Watch m = cc
+primitive-stays _ m = cc
 
 leaf-moves : (E : Setting) (f : LeafForm) (w u : World) (A : TypeExpression) → IsTrue (leaf_is_value f) → IsTrue (mobile A) → LeafRule E nothing w f A → LeafRule E nothing u f A
 leaf-moves E leaf_form.Unit w u A p m d = d

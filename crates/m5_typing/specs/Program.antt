@@ -5,7 +5,7 @@ use Rattle.m5_terms.specs.Expression.{Expression, leaf, unary, binary, ternary}
 use Rattle.m5_terms.specs.TypeExpression.{TypeExpression, unit, function, type_node_count}
 use Rattle.m5_terms.specs.InText.{leaf_type_nodes, unary_type_nodes, leaf_in_text, unary_in_text}
 use Rattle.m5_terms.specs.declared.types.World.{World}
-use Rattle.m5_terms.specs.declared.types.World.TheVariants.{Home, Server, Any}
+use Rattle.m5_terms.specs.declared.types.World.TheVariants.{Home, Any}
 use Rattle.std.specs.Coded.{Coded, code_by, coded×, coded_list}
 use Rattle.m5_terms.specs.Expression.{expression_code}
 use Rattle.m5_typing.specs.declared.functions.Function.{Function}
@@ -16,9 +16,8 @@ use Rattle.m5_typing.specs.Typing.{Typed}
 
 -- a function that is declared at any is valid
 abbrev pub bound_at : World → TypeExpression → Bound
-bound_at Home A = local Home A
-bound_at Server A = local Server A
 bound_at Any A = valid A
+bound_at w A = local w A
 
 abbrev pub declared_type : Function → TypeExpression
 declared_type g = function g.ty g.result

@@ -99,7 +99,7 @@ pub(super) const HEAD: [Production; 11] = [
     },
 ];
 
-pub(super) const ATOM: [Production; 12] = [
+pub(super) const ATOM: [Production; 13] = [
     Production {
         first: &[Kind::Name],
         symbols: &[Tok(true, Kind::Name), Act(Make(Build(ExprForm::OfName)))],
@@ -151,6 +151,13 @@ pub(super) const ATOM: [Production; 12] = [
         symbols: &[
             Tok(true, Kind::Server),
             Act(Make(Build(ExprForm::OfPlain(Plain::Server)))),
+        ],
+    },
+    Production {
+        first: &[Kind::Panel],
+        symbols: &[
+            Tok(true, Kind::Panel),
+            Act(Make(Build(ExprForm::OfPlain(Plain::Panel)))),
         ],
     },
     Production {

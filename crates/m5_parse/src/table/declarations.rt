@@ -86,7 +86,7 @@ pub(super) const FUNCTION_NAME: [Production; 2] = [
     },
 ];
 
-pub(super) const WORLD: [Production; 2] = [
+pub(super) const WORLD: [Production; 3] = [
     Production {
         first: &[Kind::Home],
         symbols: &[
@@ -99,6 +99,13 @@ pub(super) const WORLD: [Production; 2] = [
         symbols: &[
             Tok(true, Kind::Server),
             Act(Make(Declare(DeclarationForm::OfWorld(World::Server)))),
+        ],
+    },
+    Production {
+        first: &[Kind::Panel],
+        symbols: &[
+            Tok(true, Kind::Panel),
+            Act(Make(Declare(DeclarationForm::OfWorld(World::Panel)))),
         ],
     },
 ];

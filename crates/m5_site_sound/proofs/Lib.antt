@@ -1,0 +1,12 @@
+pub mod Growth
+pub mod Parts
+pub mod TextBytes
+pub mod Canonical
+pub mod Reductions
+pub mod Replies
+pub mod Steps
+pub mod SiteTexts
+pub mod Onward
+pub mod Soundness
+pub mod Counts
+pub mod Handlers
