@@ -26,7 +26,8 @@ use Rattle.m5_typing.specs.Value.{is_value_form}
 use Rattle.m5_typing.specs.Rules.{IsSmall, LeafRule, unary_rule, binary_rule, ternary_rule}
 use Rattle.m5_typing.specs.Typing.{Typed, UnaryTyped, BinaryTyped, TernaryTyped, part_context}
 use Rattle.m5_raw.specs.Resolved.{Resolved, leaf, unary, binary, ternary}
-use Rattle.m5_raw.specs.InText.{in_text, leaf_in_text, unary_in_text}
+use Rattle.m5_terms.specs.InText.{leaf_in_text, unary_in_text}
+use Rattle.m5_raw.specs.InText.{in_text}
 use Rattle.m5_elaborate.specs.declared.names.Bound.TheVariants as bound
 use Rattle.m5_elaborate.specs.declared.names.Binding.TheVariants.{Nothing, One, Two}
 use Rattle.m5_elaborate.specs.declared.parts.Inside.{Inside}

@@ -23,7 +23,8 @@ use Rattle.m5_typing.specs.Value.{is_value_form}
 use Rattle.m5_typing.specs.Rules.{IsSmall, LeafRule, Pick}
 use Rattle.m5_typing.specs.Typing.{Typed, UnaryTyped, BinaryTyped, TernaryTyped, part_context}
 use Rattle.m5_raw.specs.Resolved.{Resolved, leaf, unary, binary, ternary}
-use Rattle.m5_raw.specs.InText.{in_text, leaf_in_text, unary_in_text}
+use Rattle.m5_terms.specs.InText.{leaf_in_text, unary_in_text}
+use Rattle.m5_raw.specs.InText.{in_text}
 use Rattle.m5_elaborate.specs.Outcome.{found, refused, and_then}
 use Rattle.m5_elaborate.specs.declared.end.Kind.TheVariants.{WrongWorld}
 use Rattle.m5_elaborate.specs.declared.names.Bound.TheVariants as bound
