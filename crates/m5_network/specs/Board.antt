@@ -9,52 +9,28 @@ use Rattle.m5_terms.specs.declared.ask.AnswerOf.{AnswerOf}
 use Rattle.m5_terms.specs.declared.ask.AnswerOf.TheVariants as answer
 use Rattle.m5_terms.specs.declared.types.World.{World}
 use Rattle.m5_terms.specs.declared.types.World.TheVariants.{Home, Server}
+use Rattle.m5_terms.specs.declared.per_world.PerWorld.{PerWorld}
+use Rattle.m5_terms.specs.PerWorld.{at, with_at}
 use Rattle.m5_script.specs.declared.items.TextPair.{TextPair}
+pub use Rattle.m5_script.specs.Pairs.{text_at, set_at}
+pub use Rattle.m5_keys.specs.declared.watch.Watch.{Watch}
+pub use Rattle.m5_keys.specs.declared.watch.Trigger.{Trigger}
+pub use Rattle.m5_page.specs.declared.row.Event.{Event}
+pub use Rattle.m5_page.specs.declared.row.Handler.{Handler}
+pub use Rattle.m5_page.specs.Page.{handlers_of}
 
--- a watch of a key by a session's handler
-pub record Watch : Type 0 where
-  pub key : List ℕ
-  pub session : ℕ
-  pub number : ℕ
-
--- a write that a handler is still to be told of
-pub record Trigger : Type 0 where
-  pub key : List ℕ
-  pub number : ℕ
-  pub text : List ℕ
-
--- a page event that is left
-pub record Happening : Type 0 where
-  pub element : List ℕ
-  pub text : List ℕ
-
--- a handler of an element
-pub record Handling : Type 0 where
-  pub element : List ℕ
-  pub number : ℕ
-
--- what one session has: its page, its triggers, the events left, and a link from each of its worlds to each other one
+-- what one session has: its page, its triggers, the events left, and a link from each of its worlds to each; one to Any is lost
 pub record Desk (Item : Type 0) : Type 0 where
   pub texts : List TextPair
-  pub handlers : List Handling
+  pub handlers : List Handler
   pub triggers : List Trigger
-  pub events : List Happening
-  pub link : World → World → List Item
+  pub events : List Event
+  pub links : PerWorld (PerWorld (List Item))
 
 pub record Board (Item : Type 0) : Type 0 where
   pub pairs : List TextPair
   pub watches : List Watch
   pub desks : ℕ → Desk Item
-
--- the text of a key
-abbrev pub text_at : List TextPair → List ℕ → Option (List ℕ)
-text_at [] key = None
-text_at (p ∷ ps) key = if bytes_eq p.key key then Some p.text else text_at ps key
-
--- the pair of a key is set, in its place or last
-abbrev pub set_at : List TextPair → List ℕ → List ℕ → List TextPair
-set_at [] key text = record { key = key; text = text } ∷ []
-set_at (p ∷ ps) key text = if bytes_eq p.key key then record { key = key; text = text } ∷ ps else p ∷ set_at ps key text
 
 -- the function, but for one session or world
 abbrev pub at_session : {A : Type 0} → ℕ → A → (ℕ → A) → ℕ → A
@@ -63,8 +39,12 @@ at_session s a f = λ z. if z == s then a else f z
 abbrev pub at_world : {A : Type 0} → World → A → (World → A) → World → A
 at_world w a f = λ v. if same_world v w then a else f v
 
+-- the link from the one world to the other
+abbrev pub link : {Item : Type 0} → Desk Item → World → World → List Item
+link d v w = at (at d.links v) w
+
 abbrev pub with_link : {Item : Type 0} → World → World → List Item → Desk Item → Desk Item
-with_link v w items d = record d { link = at_world v (at_world w items (d.link v)) d.link }
+with_link v w items d = record d { links = with_at v (with_at w items (at d.links v)) d.links }
 
 -- one trigger for each watch of the key, in order of registration, to the session that registered it
 abbrev pub posted : {Item : Type 0} → List ℕ → List ℕ → List Watch → (ℕ → Desk Item) → ℕ → Desk Item
@@ -72,11 +52,6 @@ posted key text [] desks = desks
 posted key text (w ∷ ws) desks =
     if bytes_eq w.key key then posted key text ws (at_session w.session (record (desks w.session) { triggers = (desks w.session).triggers ++ record { key = key; number = w.number; text = text } ∷ [] }) desks)
     else posted key text ws desks
-
--- the numbers of an element's handlers, in order of registration
-abbrev pub handlers_of : List Handling → List ℕ → List ℕ
-handlers_of [] element = []
-handlers_of (h ∷ hs) element = if bytes_eq h.element element then h.number ∷ handlers_of hs element else handlers_of hs element
 
 -- an answer with the board after it
 pub record Answered (Item : Type 0) : Type 0 where
@@ -98,7 +73,7 @@ abbrev pub text_or_empty : {Item : Type 0} → Option (List ℕ) → AnswerOf It
 text_or_empty None = answer.Found []
 text_or_empty (Some t) = answer.Found t
 
-abbrev pub take_event : {Item : Type 0} → Board Item → ℕ → Desk Item → List Happening → Answered Item
+abbrev pub take_event : {Item : Type 0} → Board Item → ℕ → Desk Item → List Event → Answered Item
 take_event b s d [] = answered answer.Nothing b
 take_event b s d (e ∷ es) = answered_at (answer.Event e.element (handlers_of d.handlers e.element) e.text) s (record d { events = es }) b
 
@@ -119,7 +94,7 @@ take_from b s w v (i ∷ is) otherwise = answered_at (answer.Message v i) s (wit
 
 abbrev pub take_at : {Item : Type 0} → Board Item → ℕ → World → List World → Answered Item
 take_at b s w [] = take_other b s w
-take_at b s w (v ∷ vs) = take_from b s w v ((b.desks s).link v w) (take_at b s w vs)
+take_at b s w (v ∷ vs) = take_from b s w v (link (b.desks s) v w) (take_at b s w vs)
 
 -- the board's answer to what session s asks at w
 abbrev pub answer_of : {Item : Type 0} → Board Item → ℕ → World → AskOf Item → Answered Item
@@ -131,6 +106,6 @@ answer_of b s w (ask.Read k) = answered (text_or_missing (text_at b.pairs k)) b
 answer_of b s w (ask.Write k t) = answered answer.Done (record { pairs = set_at b.pairs k t; watches = b.watches; desks = posted k t b.watches b.desks })
 answer_of b s w (ask.Watch k n) = answered answer.Done (record b { watches = b.watches ++ record { key = k; session = s; number = n } ∷ [] })
 answer_of b s w (ask.Show t) = answered answer.Done b
-answer_of b s w (ask.Send v i) = answered_at answer.Done s (with_link w v ((b.desks s).link w v ++ i ∷ []) (b.desks s)) b
+answer_of b s w (ask.Send v i) = answered_at answer.Done s (with_link w v (link (b.desks s) w v ++ i ∷ []) (b.desks s)) b
 answer_of b s w ask.Take = take_at b s w site_worlds
 answer_of b s w (ask.Stop c) = answered answer.Done b

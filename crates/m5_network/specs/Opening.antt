@@ -8,12 +8,13 @@ pub use Rattle.m5_meaning.specs.Opening.{opening_site, opening_threads}
 use Rattle.m5_script.specs.Scenario.{Scenario}
 use Rattle.m5_script.specs.declared.items.PageEvent.{PageEvent}
 use Rattle.m5_script.specs.declared.items.RawItem.{RawItem}
-use Rattle.m5_network.specs.Board.{Board, Desk, Happening}
+use Rattle.m5_terms.specs.PerWorld.{each}
+use Rattle.m5_network.specs.Board.{Board, Desk, Event}
 use Rattle.m5_network.specs.Kinds.{Kind, NetOf}
 use Rattle.m5_network.specs.Run.{Network, source}
 
-abbrev pub happening : PageEvent → Happening
-happening e = record { element = e.element; text = e.text }
+abbrev pub event_of : PageEvent → Event
+event_of e = record { element = e.element; text = e.text }
 
 -- raw bytes come from the other end: a home's from its server, any other site's from its home
 abbrev pub raw_from : World → World
@@ -30,8 +31,8 @@ opening_desk_by make S s = record {
   texts = [];
   handlers = [];
   triggers = [];
-  events = map happening (filter (λ (e : PageEvent). e.session == s) S.events);
-  link = λ v w. map (λ (r : RawItem). make r.bytes) (raws_for s v w S.raws);
+  events = map event_of (filter (λ (e : PageEvent). e.session == s) S.events);
+  links = each (λ v. each (λ w. map (λ (r : RawItem). make r.bytes) (raws_for s v w S.raws)));
 }
 
 abbrev pub opening_board_by : {Item : Type 0} → (List ℕ → Item) → Scenario → Board Item

@@ -16,18 +16,20 @@ use Rattle.m5_terms.specs.declared.ask.AnswerOf.TheVariants as answer
 use Rattle.m5_meaning.specs.Site.{Program, Item}
 use Rattle.m5_script.specs.declared.items.TextPair.{TextPair}
 use Rattle.m5_script.specs.Scenario.{IsPair}
-use Rattle.m5_network.specs.Board.{Watch, Trigger, Happening, Handling, Desk, Board, text_at, set_at, at_session, at_world, with_link, posted, Answered, text_or_missing, text_or_empty, take_event, take_trigger, take_other, take_from, take_at, answer_of}
+use Rattle.m5_network.specs.Board.{Watch, Trigger, Event, Handler, Desk, Board, text_at, set_at, at_session, link, with_link, posted, Answered, text_or_missing, text_or_empty, take_event, take_trigger, take_other, take_from, take_at, answer_of}
 use Rattle.m5_site_sound.specs.Settings.{setting, Grows}
 use Rattle.m5_site_sound.specs.Sites.{ItemTyped, QueryTyped, ReplyTyped}
 use Rattle.m5_terms.specs.Answers.{IsAnswer}
 use Rattle.m5_sound.specs.Texts.{DeskHasTexts}
-use Rattle.m5_terms.proofs.SiteWorlds.{by-world}
+use Rattle.m5_terms.specs.declared.per_world.PerWorld.{PerWorld}
+use Rattle.m5_terms.specs.PerWorld.{at, with_at}
+use Rattle.m5_terms.proofs.PerWorlds.{either-at, own-at}
 use Rattle.m5_terms.proofs.Lists.{each-append}
 use Rattle.m5_site_sound.proofs.Growth.{more, items-grown}
 
 -- what a session has on the board is typed
 pub record DeskTyped (E : Setting) (d : Desk Item) : Type 0 where
-  pub links : (v w : World) → w ≢ Any → Each (ItemTyped E w) (d.link v w)
+  pub links : (v w : World) → w ≢ Any → Each (ItemTyped E w) (link d v w)
   pub texts : DeskHasTexts d
 
 pub record BoardTyped (P : Program) (T : ℕ → CellTypes) (b : Board Item) : Type 0 where
@@ -83,12 +85,13 @@ desk-set : (P : Program) (T : ℕ → CellTypes) (b : Board Item) (s : ℕ) (d :
 desk-set P T b s d t k = record { pairs = t.pairs; watches = t.watches; desks = at-each (λ z d. DeskTyped (setting P (T z)) d) s d b.desks k t.desks }
 
 link-set : (E : Setting) (d : Desk Item) (v w : World) (items : List Item) → DeskTyped E d → Each (ItemTyped E w) items → DeskTyped E (with_link v w items d)
-link-set E d v w items t i = record { links = λ x y n. at x y n; texts = record { page = t.texts.page; handlers = t.texts.handlers; triggers = t.texts.triggers; events = t.texts.events } }
-  where
-    at : (x y : World) → y ≢ Any → Each (ItemTyped E y) ((if same_world x v then at_world w items (d.link v) else d.link x) y)
-    at x y n = by-world (λ t. Each (ItemTyped E y) ((if t then at_world w items (d.link v) else d.link x) y)) x v
-        (λ e. by-world (λ t. Each (ItemTyped E y) (if t then items else d.link v y)) y w (λ f. subst (λ z. Each (ItemTyped E z) items) (sym f) i) (λ f. t.links v y n))
-        (λ e. t.links x y n)
+link-set E d v w items t i = record {
+  links = λ x y n.
+      either-at (λ (r : PerWorld (List Item)). Each (ItemTyped E y) (at r y)) d.links v (with_at w items (at d.links v)) x
+      (own-at (λ (is : List Item). Each (ItemTyped E y) is) (at d.links v) w items y n (λ f. subst (λ z. Each (ItemTyped E z) items) (sym f) i) (t.links v y n))
+      (t.links x y n);
+  texts = record { page = t.texts.page; handlers = t.texts.handlers; triggers = t.texts.triggers; events = t.texts.events };
+}
 
 posted-typed : (P : Program) (T : ℕ → CellTypes) (k x : List ℕ) (ws : List Watch) (desks : ℕ → Desk Item) → IsText k → IsText x → ((z : ℕ) → DeskTyped (setting P (T z)) (desks z)) → (z : ℕ) → DeskTyped (setting P (T z)) (posted k x ws desks z)
 posted-typed P T k x [] desks i j t = t
@@ -117,7 +120,7 @@ posted-typed P T k x (w ∷ ws) desks i j t = λ z. by (bytes_eq w.key k) z _ _
 
 -- a look
 
-event-typed : (P : Program) (T : ℕ → CellTypes) (b : Board Item) (s : ℕ) (w : World) (es : List Happening) → BoardTyped P T b → Each (λ (e : Happening). IsText e.element × IsText e.text) es → AnswerTyped P T s w (take_event b s (b.desks s) es)
+event-typed : (P : Program) (T : ℕ → CellTypes) (b : Board Item) (s : ℕ) (w : World) (es : List Event) → BoardTyped P T b → Each (λ (e : Event). IsText e.element × IsText e.text) es → AnswerTyped P T s w (take_event b s (b.desks s) es)
 event-typed P T b s w [] t h = record { reply_ = tt; board_ = t }
 event-typed P T b s w (e ∷ es) t h =
     let d = t.desks s in
@@ -146,7 +149,7 @@ from-typed P T b s w v (i ∷ is) o t h k = record { reply_ = h.0; board_ = desk
 
 look-typed : (P : Program) (T : ℕ → CellTypes) (b : Board Item) (s : ℕ) (w : World) (ws : List World) → w ≢ Any → BoardTyped P T b → AnswerTyped P T s w (take_at b s w ws)
 look-typed P T b s w [] n t = other-typed P T b s w t
-look-typed P T b s w (v ∷ vs) n t = from-typed P T b s w v ((b.desks s).link v w) (take_at b s w vs) t ((t.desks s).links v w n) (look-typed P T b s w vs n t)
+look-typed P T b s w (v ∷ vs) n t = from-typed P T b s w v (link (b.desks s) v w) (take_at b s w vs) t ((t.desks s).links v w n) (look-typed P T b s w vs n t)
 
 -- each ask
 
@@ -167,7 +170,7 @@ answer-typed P T b s w (ask.On e k) n a t =
         links = d.links;
         texts = record {
           page = d.texts.page;
-          handlers = each-append (λ (h : Handling). IsText h.element) (b.desks s).handlers _ d.texts.handlers (a.1, tt);
+          handlers = each-append (λ (h : Handler). IsText h.element) (b.desks s).handlers _ d.texts.handlers (a.1, tt);
           triggers = d.texts.triggers;
           events = d.texts.events;
         };
@@ -185,7 +188,7 @@ answer-typed P T b s w (ask.Watch k m) n a t = record {
 answer-typed P T b s w (ask.Show x) n a t = record { reply_ = tt; board_ = t }
 answer-typed P T b s w (ask.Send v i) n a t = record {
   reply_ = tt;
-  board_ = desk-set P T b s _ t (link-set (setting P (T s)) (b.desks s) w v _ (t.desks s) (each-append (ItemTyped (setting P (T s)) v) ((b.desks s).link w v) (i ∷ []) ((t.desks s).links w v a.1) (a.2, tt)));
+  board_ = desk-set P T b s _ t (link-set (setting P (T s)) (b.desks s) w v _ (t.desks s) (each-append (ItemTyped (setting P (T s)) v) (link (b.desks s) w v) (i ∷ []) ((t.desks s).links w v a.1) (a.2, tt)));
 }
 answer-typed P T b s w ask.Take n a t = look-typed P T b s w site_worlds n t
 answer-typed P T b s w (ask.Stop c) n a t = record { reply_ = tt; board_ = t }
@@ -203,7 +206,7 @@ empty-kind k (Some t) = tt
 abbrev SaysWhatComes : Answered Item → Type 0
 SaysWhatComes a = a.reply ≢ answer.Nothing → IsAnswer ask.Take a.reply
 
-event-kind : (b : Board Item) (s : ℕ) (d : Desk Item) (es : List Happening) → SaysWhatComes (take_event b s d es)
+event-kind : (b : Board Item) (s : ℕ) (d : Desk Item) (es : List Event) → SaysWhatComes (take_event b s d es)
 event-kind b s d [] n = absurd (n refl)
 event-kind b s d (e ∷ es) n = tt
 
@@ -222,7 +225,7 @@ from-kind b s w v (i ∷ is) o k = λ n. tt
 
 look-kind : (b : Board Item) (s : ℕ) (w : World) (ws : List World) → SaysWhatComes (take_at b s w ws)
 look-kind b s w [] = other-kind b s w
-look-kind b s w (v ∷ vs) = from-kind b s w v ((b.desks s).link v w) (take_at b s w vs) (look-kind b s w vs)
+look-kind b s w (v ∷ vs) = from-kind b s w v (link (b.desks s) v w) (take_at b s w vs) (look-kind b s w vs)
 
 pub answer-kind : (b : Board Item) (s : ℕ) (w : World) (q : AskOf Item) → (answer_of b s w q).reply ≢ answer.Nothing → IsAnswer q (answer_of b s w q).reply
 answer-kind b s w ask.Take n = look-kind b s w site_worlds n
@@ -233,7 +236,7 @@ answer-kind b s w _ n = tt
 -- more cells of one session
 
 desk-grown : (E F : Setting) → Extends E F → (d : Desk Item) → DeskTyped E d → DeskTyped F d
-desk-grown E F m d t = record { links = λ v w n. items-grown E F m w (d.link v w) (t.links v w n); texts = t.texts }
+desk-grown E F m d t = record { links = λ v w n. items-grown E F m w (link d v w) (t.links v w n); texts = t.texts }
 
 pub board-grown : (P : Program) (T : ℕ → CellTypes) (s : ℕ) (L : CellTypes) (b : Board Item) → Grows (T s) L → BoardTyped P T b → BoardTyped P (at_session s L T) b
 board-grown P T s L b g t = record {

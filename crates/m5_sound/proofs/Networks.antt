@@ -23,10 +23,10 @@ use Rattle.m5_meaning.specs.Step.{SiteNext, site_next}
 use Rattle.m5_script.specs.Scenario.{Scenario, IsPair, IsEvent}
 use Rattle.m5_script.specs.declared.items.PageEvent.{PageEvent}
 use Rattle.m5_script.specs.declared.items.RawItem.{RawItem}
-use Rattle.m5_network.specs.Board.{Board, Happening, answer_of, at_session, at_world}
+use Rattle.m5_network.specs.Board.{Board, Event, answer_of, at_session, at_world}
 use Rattle.m5_network.specs.Entries.{Deed, shown, read_shown, take_shown, entry_of}
 use Rattle.m5_network.specs.Claim.{has_seal, primitive_of, IsAtItsWorld}
-use Rattle.m5_network.specs.Opening.{opening, opening_site, opening_threads, happening}
+use Rattle.m5_network.specs.Opening.{opening, opening_site, opening_threads, event_of, raw_items}
 use Rattle.m5_network.specs.Kinds.{NetworkOf, IsStoppedBy, MakesDeed, StepOf, RunOf}
 use Rattle.m5_network.specs.Run.{Network, Place, NextAsk, Answers, Licence, IsLicensed, halted, source_kind, Run, with_site}
 use Rattle.m5_site_sound.specs.Settings.{setting, Grows, GrowsAt}
@@ -36,6 +36,9 @@ use Rattle.m5_site_sound.specs.Texts.{ReplyHasTexts}
 use Rattle.m5_sound.specs.Texts.{DeedHasTexts}
 use Rattle.m5_sound.specs.Networks.{NetworkTyped, ComesTo}
 use Rattle.m5_sound.specs.Laws.{PrimitivesAreAtTheirWorlds, OpeningIsTyped, OpeningIsSound, RunsKeepTypes, AllStaysTyped, EachThreadGoesOn, NoSiteGoesWrong}
+use Rattle.m5_terms.specs.declared.per_world.PerWorld.{PerWorld}
+use Rattle.m5_terms.specs.PerWorld.{at, each}
+use Rattle.m5_terms.proofs.PerWorlds.{each-at}
 use Rattle.m5_terms.proofs.SiteWorlds.{by-world, is-real}
 use Rattle.m5_terms.proofs.Lists.{each-map}
 use Rattle.m5_site_sound.proofs.Growth.{more, grows-self, grows-on, own-self, own-on, site-grown}
@@ -209,7 +212,9 @@ opening-typed P h _ = (tt, tt, tt)
 pub opening-is-typed : OpeningIsTyped
 opening-is-typed P S h k = record {
   sites = λ s w r. opening-typed P h w;
-  links = λ s v w r. raws-typed (setting P (λ w. [])) w _;
+  links = λ s v w r.
+      each-at (λ (x : PerWorld (List Item)). Each (ItemTyped (setting P (λ w. [])) w) (at x w)) (λ u. each (λ x. raw_items s u x S.raws)) v
+      (λ u. each-at (λ (is : List Item). Each (ItemTyped (setting P (λ w. [])) w) is) (λ x. raw_items s u x S.raws) w (λ x. raws-typed (setting P (λ w. [])) w _));
   texts = record {
     pairs = recursion_from_All IsPair S.pairs k.items.texts;
     watches = tt;
@@ -217,13 +222,13 @@ opening-is-typed P S h k = record {
       page = tt;
       handlers = tt;
       triggers = tt;
-      events = recursion_from_All IsTold _ (All-map IsTold happening _ (All-filter (λ (e : PageEvent). e.session == s) (λ e. IsTold (happening e)) S.events
-          (All-weaker (IsEvent S.sessions) (λ e. IsTold (happening e)) (λ e i. (i.element, i.text)) S.events k.items.events)));
+      events = recursion_from_All IsTold _ (All-map IsTold event_of _ (All-filter (λ (e : PageEvent). e.session == s) (λ e. IsTold (event_of e)) S.events
+          (All-weaker (IsEvent S.sessions) (λ e. IsTold (event_of e)) (λ e i. (i.element, i.text)) S.events k.items.events)));
     };
   };
 }
   where
-    IsTold : Happening → Type 0
+    IsTold : Event → Type 0
     IsTold e = IsText e.element × IsText e.text
 
 pub opening-is-sound : OpeningIsSound

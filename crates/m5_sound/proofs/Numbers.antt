@@ -11,7 +11,7 @@ use Rattle.m5_terms.specs.declared.types.World.TheVariants.{Home, Server}
 use Rattle.m5_terms.specs.declared.ask.AskOf.{AskOf}
 use Rattle.m5_terms.specs.declared.ask.AskOf.TheVariants as ask
 use Rattle.m5_meaning.specs.Site.{Item}
-use Rattle.m5_network.specs.Board.{Watch, Trigger, Happening, Handling, Desk, Board, text_at, at_session, at_world, posted, handlers_of, Answered, text_or_missing, text_or_empty, take_event, take_trigger, take_other, take_from, take_at, answer_of}
+use Rattle.m5_network.specs.Board.{Watch, Trigger, Event, Handler, Desk, Board, text_at, at_session, link, posted, handlers_of, Answered, text_or_missing, text_or_empty, take_event, take_trigger, take_other, take_from, take_at, answer_of}
 use Rattle.m5_terms.specs.Answers.{NamesHandlers}
 use Rattle.m5_terms.proofs.Lists.{each-map, each-append}
 use Rattle.m5_sound.proofs.Boards.{at-each}
@@ -36,7 +36,7 @@ below-more i m n h k = omega (arith, h, k)
 
 pub desk-more : (h k m n : ℕ) (d : Desk Item) → h ≤ m → k ≤ n → DeskNumbered h k d → DeskNumbered m n d
 desk-more h k m n d p q t = record {
-  handlers = each-map _ _ (λ (x : Handling) o. below-more x.number h m o p) d.handlers t.handlers;
+  handlers = each-map _ _ (λ (x : Handler) o. below-more x.number h m o p) d.handlers t.handlers;
   differ = t.differ;
   triggers = each-map _ _ (λ (x : Trigger) o. below-more x.number k n o q) d.triggers t.triggers;
 }
@@ -53,25 +53,25 @@ choice : (Q : List ℕ → Type 0) (t : Bool) (xs ys : List ℕ) → Q xs → Q 
 choice Q true xs ys p q = p
 choice Q false xs ys p q = q
 
-each-of : (Q : ℕ → Type 0) (hs : List Handling) (e : List ℕ) → Each (λ (h : Handling). Q h.number) hs → Each Q (handlers_of hs e)
+each-of : (Q : ℕ → Type 0) (hs : List Handler) (e : List ℕ) → Each (λ (h : Handler). Q h.number) hs → Each Q (handlers_of hs e)
 each-of Q [] e t = tt
 each-of Q (h ∷ hs) e t = choice (λ ns. Each Q ns) (bytes_eq h.element e) _ _ (t.0, each-of Q hs e t.1) (each-of Q hs e t.1)
 
 no-pairs : AllPairs (λ (i j : ℕ). i ≢ j) []
 no-pairs i j d h k = absurd (omega (arith, k))
 
-differ-of : (hs : List Handling) (e : List ℕ) → Differ hs → AllPairs (λ (i j : ℕ). i ≢ j) (handlers_of hs e)
+differ-of : (hs : List Handler) (e : List ℕ) → Differ hs → AllPairs (λ (i j : ℕ). i ≢ j) (handlers_of hs e)
 differ-of [] e t = no-pairs
 differ-of (h ∷ hs) e t = choice (λ ns. AllPairs (λ (i j : ℕ). i ≢ j) ns) (bytes_eq h.element e) _ _
     (AllPairs-cons (λ (i j : ℕ). i ≢ j) h.number (handlers_of hs e) (All-from_recursion _ _ (each-of (λ n. h.number ≢ n) hs e t.0)) (differ-of hs e t.1)) (differ-of hs e t.1)
 
-differ-end : (hs : List Handling) (h : Handling) → Each (λ (g : Handling). g.number < h.number) hs → Differ hs → Differ (hs ++ h ∷ [])
+differ-end : (hs : List Handler) (h : Handler) → Each (λ (g : Handler). g.number < h.number) hs → Differ hs → Differ (hs ++ h ∷ [])
 differ-end [] h o t = (tt, tt)
-differ-end (g ∷ hs) h o t = (each-append (λ (k : Handling). g.number ≢ k.number) hs (h ∷ []) t.0 ((λ e. omega (arith, o.0, e)), tt), differ-end hs h o.1 t.1)
+differ-end (g ∷ hs) h o t = (each-append (λ (k : Handler). g.number ≢ k.number) hs (h ∷ []) t.0 ((λ e. omega (arith, o.0, e)), tt), differ-end hs h o.1 t.1)
 
 -- a look
 
-event-names : (b : Board Item) (s n k : ℕ) (d : Desk Item) (es : List Happening) → DeskNumbered n k d → NamesHandlers n (take_event b s d es).reply
+event-names : (b : Board Item) (s n k : ℕ) (d : Desk Item) (es : List Event) → DeskNumbered n k d → NamesHandlers n (take_event b s d es).reply
 event-names b s n k d [] t = tt
 event-names b s n k d (e ∷ es) t = (each-of (λ i. i < n) d.handlers e.element t.handlers, differ-of d.handlers e.element t.differ)
 
@@ -90,7 +90,7 @@ from-names b s n w v (i ∷ is) o t = tt
 
 look-names : (c : ℕ → World → ℕ) (b : Board Item) (s : ℕ) (w : World) (vs : List World) → BoardNumbered c b → NamesHandlers (c s w) (take_at b s w vs).reply
 look-names c b s w [] t = other-names c b s w t
-look-names c b s w (v ∷ vs) t = from-names b s (c s w) w v ((b.desks s).link v w) (take_at b s w vs) (look-names c b s w vs t)
+look-names c b s w (v ∷ vs) t = from-names b s (c s w) w v (link (b.desks s) v w) (take_at b s w vs) (look-names c b s w vs t)
 
 missing-names : (n : ℕ) (o : Option (List ℕ)) → NamesHandlers {I = Item} n (text_or_missing o)
 missing-names n None = tt
@@ -128,7 +128,7 @@ posted-numbered c k x (w ∷ ws) desks o t = λ z. by (bytes_eq w.key k) z _ _
     by true z f g p q = p
     by false z f g p q = q
 
-event-board : (c : ℕ → World → ℕ) (b : Board Item) (s : ℕ) (es : List Happening) → BoardNumbered c b → BoardNumbered c (take_event b s (b.desks s) es).board
+event-board : (c : ℕ → World → ℕ) (b : Board Item) (s : ℕ) (es : List Event) → BoardNumbered c b → BoardNumbered c (take_event b s (b.desks s) es).board
 event-board c b s [] t = t
 event-board c b s (e ∷ es) t = let d = t.desks s in desk-put c b s _ t (record { handlers = d.handlers; differ = d.differ; triggers = d.triggers })
 
@@ -147,7 +147,7 @@ from-board c b s w v (i ∷ is) o t k = let d = t.desks s in desk-put c b s _ t 
 
 look-board : (c : ℕ → World → ℕ) (b : Board Item) (s : ℕ) (w : World) (vs : List World) → BoardNumbered c b → BoardNumbered c (take_at b s w vs).board
 look-board c b s w [] t = other-board c b s w t
-look-board c b s w (v ∷ vs) t = from-board c b s w v ((b.desks s).link v w) (take_at b s w vs) t (look-board c b s w vs t)
+look-board c b s w (v ∷ vs) t = from-board c b s w v (link (b.desks s) v w) (take_at b s w vs) t (look-board c b s w vs t)
 
 more-there : (c : ℕ → World → ℕ) (s : ℕ) (w : World) (m : ℕ) → c s w ≤ m → (z : ℕ) (v : World) → c z v ≤ with_count s w m c z v
 more-there c s w m h = at-place (λ z v x y. c z v ≤ x) s w m m c c h (λ z v. omega (arith))
@@ -177,8 +177,8 @@ on-board c b s e n m old new p q =
     let d = new.desks s in
     let i : n < with_count s Home m c s Home = omega (arith, p, q, home-there c s m) in
     desk-put (with_count s Home m c) b s _ new (record {
-      handlers = each-append (λ (h : Handling). h.number < with_count s Home m c s Home) (b.desks s).handlers _ d.handlers (i, tt);
-      differ = differ-end (b.desks s).handlers (record { element = e; number = n }) (each-map _ _ (λ (h : Handling) o. omega (arith, o, p)) (b.desks s).handlers (old.desks s).handlers) (old.desks s).differ;
+      handlers = each-append (λ (h : Handler). h.number < with_count s Home m c s Home) (b.desks s).handlers _ d.handlers (i, tt);
+      differ = differ-end (b.desks s).handlers (record { element = e; number = n }) (each-map _ _ (λ (h : Handler) o. omega (arith, o, p)) (b.desks s).handlers (old.desks s).handlers) (old.desks s).differ;
       triggers = d.triggers;
     })
 

@@ -9,6 +9,7 @@ use Rattle.m5_terms.specs.Machine.{Comes}
 use Rattle.m5_meaning.specs.Site.{Program, Site, Item}
 use Rattle.m5_meaning.specs.Step.{site_next}
 use Rattle.m5_script.specs.Scenario.{Scenario, IsScript}
+use Rattle.m5_network.specs.Board.{link}
 use Rattle.m5_network.specs.Entries.{Deed}
 use Rattle.m5_network.specs.Opening.{opening}
 use Rattle.m5_network.specs.Run.{Network, Place, IsSite, Run, with_site}
@@ -19,7 +20,7 @@ use Rattle.m5_sound.specs.Texts.{BoardHasTexts}
 -- by the types T of each session's cells, sites and links are typed; no site has the world any
 pub record NetworkTyped (P : Program) (T : ℕ → CellTypes) (N : Network) : Type 0 where
   pub sites : (s : ℕ) (w : World) → w ≢ Any → SiteTyped (setting P (T s)) w (N.site s w)
-  pub links : (s : ℕ) (v w : World) → w ≢ Any → Each (ItemTyped (setting P (T s)) w) ((N.board.desks s).link v w)
+  pub links : (s : ℕ) (v w : World) → w ≢ Any → Each (ItemTyped (setting P (T s)) w) (link (N.board.desks s) v w)
   pub texts : BoardHasTexts N.board
 
 -- a typed program, by a script, makes these deeds at these places, and then the site comes to x before it asks again

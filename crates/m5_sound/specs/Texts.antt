@@ -6,7 +6,7 @@ use Rattle.m5_terms.specs.declared.types.World.{World}
 use Rattle.m5_terms.specs.declared.ask.Act.{Act}
 use Rattle.m5_terms.specs.declared.ask.Act.TheVariants as act
 use Rattle.m5_script.specs.Scenario.{IsPair}
-use Rattle.m5_network.specs.Board.{Watch, Trigger, Happening, Handling, Desk, Board}
+use Rattle.m5_network.specs.Board.{Watch, Trigger, Event, Handler, Desk, Board, link}
 use Rattle.m5_network.specs.Entries.{Deed}
 use Rattle.m5_meaning.specs.Site.{Item}
 use Rattle.m5_site_sound.specs.Texts.{ItemHasTexts, QueryHasTexts, ReplyHasTexts}
@@ -33,9 +33,9 @@ ActHasTexts _ = Unit {0}
 -- what a session has on the board, its links aside
 pub record DeskHasTexts (d : Desk Item) : Type 0 where
   pub page : Each IsPair d.texts
-  pub handlers : Each (λ (h : Handling). IsText h.element) d.handlers
+  pub handlers : Each (λ (h : Handler). IsText h.element) d.handlers
   pub triggers : Each (λ (t : Trigger). IsText t.key × IsText t.text) d.triggers
-  pub events : Each (λ (e : Happening). IsText e.element × IsText e.text) d.events
+  pub events : Each (λ (e : Event). IsText e.element × IsText e.text) d.events
 
 pub record BoardHasTexts (b : Board Item) : Type 0 where
   pub pairs : Each IsPair b.pairs
@@ -44,4 +44,4 @@ pub record BoardHasTexts (b : Board Item) : Type 0 where
 
 -- the session's link between the two worlds
 abbrev pub LinkHasTexts : Board Item → ℕ → World → World → Type 0
-LinkHasTexts b s v w = Each ItemHasTexts ((b.desks s).link v w)
+LinkHasTexts b s v w = Each ItemHasTexts (link (b.desks s) v w)

@@ -15,7 +15,10 @@ use Rattle.m5_terms.specs.declared.thread.Frame.{Frame}
 use Rattle.m5_terms.specs.declared.thread.Frame.TheVariants.{Part, Return}
 use Rattle.m5_terms.specs.declared.thread.Focus.{Focus}
 use Rattle.m5_terms.specs.declared.thread.Focus.TheVariants.{Eval, Returned}
-use Rattle.m5_terms.specs.Asks.{Query, on, watch, Reply, done, found, missing, message, fired, event}
+use Rattle.m5_terms.specs.declared.ask.AskOf.{AskOf}
+use Rattle.m5_terms.specs.declared.ask.AskOf.TheVariants as ask
+use Rattle.m5_terms.specs.declared.ask.AnswerOf.{AnswerOf}
+use Rattle.m5_terms.specs.declared.ask.AnswerOf.TheVariants as answer
 use Rattle.m5_meaning.specs.Parts.{parts, part, fill, inner_world, unary_parts, binary_parts}
 use Rattle.m5_meaning.specs.Site.{Program, Thread, Site, Item, thread, raw}
 use Rattle.m5_meaning.specs.Reduction.{Reduced, gives, makes_text, goes_on, makes_cell, loads, stores, leaves, says, shows, sets, writes, gets, reads, handles, watches, reduced, unit_value}
@@ -50,24 +53,24 @@ moved P n s ts h c = record { threads = h; cells = c.cells; handlers = c.handler
 going : (P : Program) (n : ℕ) (s : Site) (ts : List Thread) (fs : List Frame) (f : Focus) → All IsClosedThread ts → All IsClosedFrame fs → IsClosedFocus f → IsClosedSite s → IsClosedSite (stepped P n s (thread_of fs f ∷ ts))
 going P n s ts fs f h k m c = moved P n s _ (All-cons IsClosedThread (thread_of fs f) ts (record { frames = k; focus = m }) h) c
 
-stopped : (s : Site) → IsClosedSite s → (r : Reply Item) (t : Site) → IsClosedReply r → stopped_by s r ≡ Some t → IsClosedSite t
-stopped s c done t k e = given _ t (record { threads = c.threads; cells = c.cells; handlers = c.handlers }) e
+stopped : (s : Site) → IsClosedSite s → (r : AnswerOf Item) (t : Site) → IsClosedReply r → stopped_by s r ≡ Some t → IsClosedSite t
+stopped s c answer.Done t k e = given _ t (record { threads = c.threads; cells = c.cells; handlers = c.handlers }) e
 stopped s c _ t k e = cc
 
 stopping : (s : Site) → IsClosedSite s → IsClosedNext (stops_full s)
 stopping s c = (tt, stopped s c)
 
-told : (P : Program) (s : Site) (ts : List Thread) → All IsClosedThread ts → IsClosedSite s → (r : Reply Item) (t : Site) → IsClosedReply r → after_done P s ts r ≡ Some t → IsClosedSite t
-told P s ts h c done t k e = given _ t (moved P 0 s ts h c) e
+told : (P : Program) (s : Site) (ts : List Thread) → All IsClosedThread ts → IsClosedSite s → (r : AnswerOf Item) (t : Site) → IsClosedReply r → after_done P s ts r ≡ Some t → IsClosedSite t
+told P s ts h c answer.Done t k e = given _ t (moved P 0 s ts h c) e
 told P s ts h c _ t k e = cc
 
-got-text : (P : Program) (s : Site) (ts : List Thread) (fs : List Frame) (w : World) → All IsClosedThread ts → All IsClosedFrame fs → IsClosedSite s → (r : Reply Item) (t : Site) → IsClosedReply r → after_get_text P s ts fs w r ≡ Some t → IsClosedSite t
-got-text P s ts fs w h m c (found x) t k e = given _ t (going P (length x) s ts fs _ h m refl c) e
+got-text : (P : Program) (s : Site) (ts : List Thread) (fs : List Frame) (w : World) → All IsClosedThread ts → All IsClosedFrame fs → IsClosedSite s → (r : AnswerOf Item) (t : Site) → IsClosedReply r → after_get_text P s ts fs w r ≡ Some t → IsClosedSite t
+got-text P s ts fs w h m c (answer.Found x) t k e = given _ t (going P (length x) s ts fs _ h m refl c) e
 got-text P s ts fs w h m c _ t k e = cc
 
-got-read : (P : Program) (s : Site) (ts : List Thread) (fs : List Frame) (w : World) → All IsClosedThread ts → All IsClosedFrame fs → IsClosedSite s → (r : Reply Item) (t : Site) → IsClosedReply r → after_read P s ts fs w r ≡ Some t → IsClosedSite t
-got-read P s ts fs w h m c (found x) t k e = given _ t (going P (length x) s ts fs _ h m refl c) e
-got-read P s ts fs w h m c missing t k e = given _ t (going P 0 s ts fs _ h m refl c) e
+got-read : (P : Program) (s : Site) (ts : List Thread) (fs : List Frame) (w : World) → All IsClosedThread ts → All IsClosedFrame fs → IsClosedSite s → (r : AnswerOf Item) (t : Site) → IsClosedReply r → after_read P s ts fs w r ≡ Some t → IsClosedSite t
+got-read P s ts fs w h m c (answer.Found x) t k e = given _ t (going P (length x) s ts fs _ h m refl c) e
+got-read P s ts fs w h m c answer.Missing t k e = given _ t (going P 0 s ts fs _ h m refl c) e
 got-read P s ts fs w h m c _ t k e = cc
 
 -- unit comes back
@@ -81,7 +84,7 @@ joins-or-stops : (t : Bool) (s : Site) (n : SiteNext) → IsClosedSite s → IsC
 joins-or-stops true s n c h = stopping s c
 joins-or-stops false s n c h = h
 
-handler-added : (P : Program) (s : Site) (ts : List Thread) (fs : List Frame) (w : World) (q : ℕ → Query Item) (k : Expression) → IsClosedSite s → All IsClosedThread ts → All IsClosedFrame fs → IsClosed k → IsClosedQuery (q (length s.handlers)) → IsClosedNext (adds_handler P s ts fs w q k)
+handler-added : (P : Program) (s : Site) (ts : List Thread) (fs : List Frame) (w : World) (q : ℕ → AskOf Item) (k : Expression) → IsClosedSite s → All IsClosedThread ts → All IsClosedFrame fs → IsClosed k → IsClosedQuery (q (length s.handlers)) → IsClosedNext (adds_handler P s ts fs w q k)
 handler-added P s ts fs w q k c h m d a =
     joins-or-stops (is_full s.handlers) s _ c (a, told P _ _ (unit-back ts fs w h m) (handler-joins s k c d))
 
@@ -110,8 +113,8 @@ outcome-closed P u s ts fs w (sets e t) c h m k = (tt, told P s _ (unit-back ts 
 outcome-closed P u s ts fs w (writes e t) c h m k = (tt, told P s _ (unit-back ts fs w h m) c)
 outcome-closed P u s ts fs w (gets e) c h m k = (tt, got-text P s ts fs w h m c)
 outcome-closed P u s ts fs w (reads e) c h m k = (tt, got-read P s ts fs w h m c)
-outcome-closed P u s ts fs w (handles e g) c h m k = handler-added P s ts fs w (on e) g c h m k tt
-outcome-closed P u s ts fs w (watches e g) c h m k = handler-added P s ts fs w (watch e) g c h m k tt
+outcome-closed P u s ts fs w (handles e g) c h m k = handler-added P s ts fs w (ask.On e) g c h m k tt
+outcome-closed P u s ts fs w (watches e g) c h m k = handler-added P s ts fs w (ask.Watch e) g c h m k tt
 outcome-closed P u s ts fs w reduction.wrong c h m k = tt
 
 few-unary : (f : UnaryForm) → unary_parts f ≤ 1
@@ -201,11 +204,11 @@ threads-closed u s (n ∷ ns) t c =
     All-append IsClosedThread (handler_thread u t (slice_get s.handlers n)) (handler_threads u s ns t)
     (thread-closed u t (slice_get s.handlers n) (λ k e. at-place IsClosed s.handlers n k e c.handlers)) (threads-closed u s ns t c)
 
-news : (u : World) (s : Site) → IsClosedSite s → (r : Reply Item) (t : Site) → IsClosedReply r → after_take u s r ≡ Some t → IsClosedSite t
-news u s c (message w (thread x)) t k e = given _ t (begins s (x ∷ []) c (All-cons IsClosedThread x [] k (All-nil IsClosedThread))) e
-news u s c (message w (raw b)) t k e = given s t c e
-news u s c (fired key n x) t k e = given _ t (begins s _ c (threads-closed u s (n ∷ []) x c)) e
-news u s c (event el ns x) t k e = given _ t (begins s _ c (threads-closed u s ns x c)) e
+news : (u : World) (s : Site) → IsClosedSite s → (r : AnswerOf Item) (t : Site) → IsClosedReply r → after_take u s r ≡ Some t → IsClosedSite t
+news u s c (answer.Message w (thread x)) t k e = given _ t (begins s (x ∷ []) c (All-cons IsClosedThread x [] k (All-nil IsClosedThread))) e
+news u s c (answer.Message w (raw b)) t k e = given s t c e
+news u s c (answer.Fired key n x) t k e = given _ t (begins s _ c (threads-closed u s (n ∷ []) x c)) e
+news u s c (answer.Event el ns x) t k e = given _ t (begins s _ c (threads-closed u s ns x c)) e
 news u s c _ t k e = cc
 
 front-closed : (P : Program) → IsClosedProgram P → (u : World) (s : Site) (xs : List Thread) → IsClosedSite s → All IsClosedThread xs → IsClosedNext (front P u s xs)

@@ -11,7 +11,7 @@ use Rattle.m5_terms.specs.declared.thread.Frame.{Frame}
 use Rattle.m5_terms.specs.declared.thread.Frame.TheVariants.{Part, Return}
 use Rattle.m5_terms.specs.declared.thread.Focus.TheVariants.{Eval, Returned}
 use Rattle.m5_terms.specs.Machine.{goes, asks}
-use Rattle.m5_terms.specs.Asks.{stop}
+use Rattle.m5_terms.specs.declared.ask.AskOf.TheVariants as ask
 use Rattle.m5_meaning.specs.Parts.{parts, fill}
 use Rattle.m5_meaning.specs.Site.{Program, Thread, Site}
 use Rattle.m5_meaning.specs.Step.{SiteNext, outcome, stops_full, atom, is_full, stepped, thread_of, part_begun, returned}
@@ -42,7 +42,7 @@ parts-fill (binary f a b) zero v = refl
 parts-fill (binary f a b) (suc k) v = refl
 parts-fill (ternary f a b c) k v = refl
 
-pub full-is : (P : Program) (u : World) (t : Thread) (s : Site) (fs : List Frame) (w : World) (q r : Reduced) (x : Waiting) → q ≡ r → lacks_place s q ≡ true → x ≡ record { site = with_front t s; wait = ToStop } → outcome P u (with_front t s) s.threads fs w r ≡ asks (stop Table) (resumed P u x.site x.wait)
+pub full-is : (P : Program) (u : World) (t : Thread) (s : Site) (fs : List Frame) (w : World) (q r : Reduced) (x : Waiting) → q ≡ r → lacks_place s q ≡ true → x ≡ record { site = with_front t s; wait = ToStop } → outcome P u (with_front t s) s.threads fs w r ≡ asks (ask.Stop Table) (resumed P u x.site x.wait)
 full-is P u t s fs w q r x e h k =
     let g : lacks_place s r ≡ true = subst (λ (z : Reduced). lacks_place s z ≡ true) e h in
     stops P u t s fs w r g ∙ (rw k refl)
@@ -68,7 +68,7 @@ away P u w t s fs gs v x a e h =
     let Holds : List Frame → Type 0 = λ ks. Stands P u a (returned P u (with_front t s) s.threads ks w v) in
     subst Holds (sym e) h
 
-pub spawn-stops : (P : Program) (u : World) (t : Thread) (s : Site) (fs : List Frame) (w : World) (e a : Expression) (x : Waiting) → e ≡ unary unary_form.Spawn a → is_full (t ∷ s.threads) ≡ true → x ≡ record { site = with_front t s; wait = ToStop } → atom P (with_front t s) s.threads fs w e ≡ asks (stop Table) (resumed P u x.site x.wait)
+pub spawn-stops : (P : Program) (u : World) (t : Thread) (s : Site) (fs : List Frame) (w : World) (e a : Expression) (x : Waiting) → e ≡ unary unary_form.Spawn a → is_full (t ∷ s.threads) ≡ true → x ≡ record { site = with_front t s; wait = ToStop } → atom P (with_front t s) s.threads fs w e ≡ asks (ask.Stop Table) (resumed P u x.site x.wait)
 spawn-stops P u t s fs w e a x q h k = rw (q, h, k) refl
 
 pub spawn-goes : (P : Program) (t : Thread) (s p : Site) (fs : List Frame) (w : World) (e a : Expression) → e ≡ unary unary_form.Spawn a → is_full (t ∷ s.threads) ≡ false → p ≡ stepped P 0 s ((thread_of fs (Returned w unit_value) ∷ s.threads) ++ thread_of [] (Eval w a) ∷ []) → atom P (with_front t s) s.threads fs w e ≡ goes p

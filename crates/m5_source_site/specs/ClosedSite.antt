@@ -9,7 +9,10 @@ use Rattle.m5_terms.specs.declared.thread.Focus.TheVariants.{Eval, Returned}
 use Rattle.m5_typing.specs.declared.functions.Function.{Function}
 use Rattle.m5_typing.specs.Program.{IsProgram}
 use Rattle.m5_terms.specs.Machine.{goes, asks, wrong}
-use Rattle.m5_terms.specs.Asks.{Query, send, Reply, message}
+use Rattle.m5_terms.specs.declared.ask.AskOf.{AskOf}
+use Rattle.m5_terms.specs.declared.ask.AskOf.TheVariants as ask
+use Rattle.m5_terms.specs.declared.ask.AnswerOf.{AnswerOf}
+use Rattle.m5_terms.specs.declared.ask.AnswerOf.TheVariants as answer
 use Rattle.m5_meaning.specs.Site.{Program, Thread, Site, Item, thread, raw}
 use Rattle.m5_meaning.specs.Step.{SiteNext, site_next}
 
@@ -40,18 +43,18 @@ abbrev pub IsClosedItem : Item → Type 0
 IsClosedItem (thread t) = IsClosedThread t
 IsClosedItem (raw bytes) = Unit {0}
 
-abbrev pub IsClosedQuery : Query Item → Type 0
-IsClosedQuery (send w i) = IsClosedItem i
+abbrev pub IsClosedQuery : AskOf Item → Type 0
+IsClosedQuery (ask.Send w i) = IsClosedItem i
 IsClosedQuery _ = Unit {0}
 
-abbrev pub IsClosedReply : Reply Item → Type 0
-IsClosedReply (message w i) = IsClosedItem i
+abbrev pub IsClosedReply : AnswerOf Item → Type 0
+IsClosedReply (answer.Message w i) = IsClosedItem i
 IsClosedReply _ = Unit {0}
 
 -- whatever is answered, what comes next is closed
 abbrev pub IsClosedNext : SiteNext → Type 0
 IsClosedNext (goes t) = IsClosedSite t
-IsClosedNext (asks q resume) = IsClosedQuery q × ((r : Reply Item) (t : Site) → IsClosedReply r → resume r ≡ Some t → IsClosedSite t)
+IsClosedNext (asks q resume) = IsClosedQuery q × ((r : AnswerOf Item) (t : Site) → IsClosedReply r → resume r ≡ Some t → IsClosedSite t)
 IsClosedNext wrong = Unit {0}
 
 -- a closed site of a closed program stays closed, and sends nothing that is not

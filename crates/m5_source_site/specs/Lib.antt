@@ -1,4 +1,5 @@
 pub mod Codes
+pub mod Items
 pub mod ClosedSite
 pub mod Reductions
 pub mod Atoms

@@ -2,51 +2,18 @@
 use Rattle.std.specs.Prelude.{◌≡◌, Bool, false, ◌∷◌, Option, Some}
 use Rattle.m5_terms.specs.declared.types.World.{World}
 use Rattle.m5_terms.specs.Machine.{goes, asks, wrong}
-use Rattle.m5_terms.specs.Asks.{Query, Reply}
-use Rattle.m5_terms.specs.Asks as asks
+use Rattle.m5_terms.specs.declared.ask.AnswerOf.{AnswerOf}
 use Rattle.m5_meaning.specs.Site.{Program, Thread, Site, Item}
-use Rattle.m5_meaning.specs.Site as item
 use Rattle.m5_meaning.specs.Step.{SiteNext, is_full, after_done, after_get_text, after_read, after_take, stopped_by}
 use Rattle.m5_meaning.specs.Reduction.{Reduced, makes_cell, leaves, says, shows, sets, writes, gets, reads, handles, watches}
 use Rattle.m5_source_site.specs.ClosedSite.{IsClosedSite, IsClosedQuery, IsClosedReply}
-use Rattle.m5_source_site.specs.declared.query.SiteItem.{SiteItem}
-use Rattle.m5_source_site.specs.declared.query.SiteItem.TheVariants as site_item
-use Rattle.m5_source_site.specs.declared.query.SiteQuery.{SiteQuery}
-use Rattle.m5_source_site.specs.declared.query.SiteQuery.TheVariants as query
-use Rattle.m5_source_site.specs.declared.query.SiteReply.{SiteReply}
-use Rattle.m5_source_site.specs.declared.query.SiteReply.TheVariants as reply
 use Rattle.m5_source_site.specs.declared.resume.Wait.{Wait}
 use Rattle.m5_source_site.specs.declared.resume.Wait.TheVariants as wait
 use Rattle.m5_source_site.specs.declared.advance.Progress.{Progress}
 use Rattle.m5_source_site.specs.declared.advance.Progress.TheVariants as progress
 
-abbrev pub item_of : SiteItem → Item
-item_of (site_item.Thread t) = item.thread t
-item_of (site_item.Raw bytes) = item.raw bytes
-
-abbrev pub query_of : SiteQuery → Query Item
-query_of (query.Say t) = asks.say t
-query_of (query.Set e t) = asks.set e t
-query_of (query.GetText e) = asks.get_text e
-query_of (query.On e n) = asks.on e n
-query_of (query.Read k) = asks.read k
-query_of (query.Write k t) = asks.write k t
-query_of (query.Watch k n) = asks.watch k n
-query_of (query.Send w t) = asks.send w (item.thread t)
-query_of query.Take = asks.take
-query_of (query.Stop c) = asks.stop c
-
-abbrev pub reply_of : SiteReply → Reply Item
-reply_of reply.Done = asks.done
-reply_of (reply.Found t) = asks.found t
-reply_of reply.Missing = asks.missing
-reply_of (reply.Message w i) = asks.message w (item_of i)
-reply_of (reply.Fired k n t) = asks.fired k n t
-reply_of (reply.Event e ns t) = asks.event e ns t
-reply_of reply.Nothing = asks.nothing
-
 -- what a waiting site at the world u does with an answer
-abbrev pub resumed : Program → World → Site → Wait → Reply Item → Option Site
+abbrev pub resumed : Program → World → Site → Wait → AnswerOf Item → Option Site
 resumed P u s wait.Told = after_done P s s.threads
 resumed P u s (wait.ForText fs w) = after_get_text P s s.threads fs w
 resumed P u s (wait.ForRead fs w) = after_read P s s.threads fs w
@@ -56,13 +23,13 @@ resumed P u s wait.ToStop = stopped_by s
 -- the code's answer is what the site does next
 abbrev pub Stands : Program → World → Progress → SiteNext → Type 0
 Stands P u (progress.Goes s) n = n ≡ goes s
-Stands P u (progress.Asks q x) n = n ≡ asks (query_of q) (resumed P u x.site x.wait)
+Stands P u (progress.Asks q x) n = n ≡ asks q (resumed P u x.site x.wait)
 Stands P u progress.Wrong n = n ≡ wrong
 
 -- what the code's answer holds is closed, and stays so with each closed reply
 abbrev pub IsClosedProgress : Program → World → Progress → Type 0
 IsClosedProgress P u (progress.Goes s) = IsClosedSite s
-IsClosedProgress P u (progress.Asks q x) = IsClosedQuery (query_of q) × ((r : Reply Item) (t : Site) → IsClosedReply r → resumed P u x.site x.wait r ≡ Some t → IsClosedSite t)
+IsClosedProgress P u (progress.Asks q x) = IsClosedQuery q × ((r : AnswerOf Item) (t : Site) → IsClosedReply r → resumed P u x.site x.wait r ≡ Some t → IsClosedSite t)
 IsClosedProgress P u progress.Wrong = Unit {0}
 
 -- the site with one thread more, which runs

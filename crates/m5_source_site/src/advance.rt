@@ -7,11 +7,12 @@ ghost use Rattle.m5_source_site.specs.Waits.{with_front, Stands, IsClosedProgres
 
 use crate::atom::evaluate;
 use crate::give::give_back;
-use crate::query::SiteQuery;
+use crate::item::SiteAsk;
 use crate::resume::{Wait, Waiting};
 use crate::rules::Rules;
 use crate::site::Site;
 use crate::thread::SiteThread;
+use m5_terms::ask::AskOf;
 use m5_terms::thread::Focus;
 use m5_terms::types::World;
 use std::alloc::{AllocError, Global};
@@ -20,7 +21,7 @@ use std::alloc::{AllocError, Global};
 #[derive(Drop)]
 pub enum Progress {
     Goes(Site),
-    Asks(SiteQuery, Waiting),
+    Asks(SiteAsk, Waiting),
     Wrong,
 }
 
@@ -57,7 +58,7 @@ fn next_of(
         Some(thread) => run(alloc, rules, here, site, thread),
         None => {
             let wait = Wait::ForNews;
-            Ok(Progress::Asks(SiteQuery::Take, Waiting { site, wait }))
+            Ok(Progress::Asks(AskOf::Take, Waiting { site, wait }))
         }
     }
 }

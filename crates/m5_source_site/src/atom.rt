@@ -15,11 +15,10 @@ use crate::advance::Progress;
 use crate::give::begin_part;
 use crate::outcome::{full, step_to};
 use crate::parts::count_of_parts;
-use crate::query::SiteQuery;
 use crate::rules::Rules;
 use crate::site::Site;
 use crate::thread::{FrameQueue, SiteThread};
-use m5_terms::ask::Cause;
+use m5_terms::ask::{AskOf, Cause};
 use m5_terms::form::LeafForm;
 use m5_terms::node::Node;
 use m5_terms::opened::{LeafView, Opened, UnaryView};
@@ -88,7 +87,7 @@ fn evaluate_atom(
         Some(body) => {
             if site.lacks_place_beside_front() {
                 let waiting = full(site, frames, Focus::Eval(at, node))?;
-                Ok(Progress::Asks(SiteQuery::Stop(Cause::Table), waiting))
+                Ok(Progress::Asks(AskOf::Stop(Cause::Table), waiting))
             } else {
                 Ok(Progress::Goes(spawn(alloc, rules, site, frames, at, body)?))
             }

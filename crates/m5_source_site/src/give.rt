@@ -15,16 +15,16 @@ ghost use Rattle.m5_source_site.specs.Reductions.{reduction_of};
 ghost use Rattle.m5_source_site.specs.Waits.{with_front, lacks_place, Stands};
 
 use crate::advance::Progress;
+use crate::item::LinkItem;
 use crate::outcome::{conclude, full, step_to};
 use crate::parts::{copy_part, count_of_parts, filled, world_of_parts};
-use crate::query::SiteQuery;
 use crate::reduce::{reduce_binary, reduce_ternary, reduce_unary};
 use crate::reduced::Reduced;
 use crate::resume::{Wait, Waiting};
 use crate::rules::Rules;
 use crate::site::Site;
 use crate::thread::{FrameQueue, SiteThread};
-use m5_terms::ask::Cause;
+use m5_terms::ask::{AskOf, Cause};
 use m5_terms::node::Node;
 use m5_terms::opened::Opened;
 use m5_terms::thread::{Focus, Frame};
@@ -128,7 +128,7 @@ fn give_last(
     if has_no_place(&site, &reduced) {
         let frame = Frame::Part { world, node, hole };
         let waiting = full_at_frame(site, frames, frame, Focus::Returned(at, value))?;
-        Ok(Progress::Asks(SiteQuery::Stop(Cause::Table), waiting))
+        Ok(Progress::Asks(AskOf::Stop(Cause::Table), waiting))
     } else {
         conclude(alloc, rules, here, site, frames, world, reduced)
     }
@@ -166,7 +166,10 @@ fn give_away(site: Site, frames: FrameQueue, there: World, value: Node) -> Progr
 {
     let thread = SiteThread::new(frames, Focus::Returned(there, value));
     let wait = Wait::Told;
-    Progress::Asks(SiteQuery::Send(there, thread), Waiting { site, wait })
+    Progress::Asks(
+        AskOf::Send(there, LinkItem::of_thread(thread)),
+        Waiting { site, wait },
+    )
 }
 
 /// The value ends the thread, fills the hole of its top frame, or goes back to another world.

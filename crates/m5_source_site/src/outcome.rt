@@ -14,12 +14,13 @@ ghost use Rattle.m5_source_site.specs.Reductions.{reduction_of};
 ghost use Rattle.m5_source_site.specs.Waits.{with_front, lacks_place, IsAsk, Stands};
 
 use crate::advance::Progress;
-use crate::query::SiteQuery;
+use crate::item::LinkItem;
 use crate::reduced::Reduced;
 use crate::resume::{Wait, Waiting};
 use crate::rules::Rules;
 use crate::site::Site;
 use crate::thread::{FrameQueue, SiteThread};
+use m5_terms::ask::AskOf;
 use m5_terms::form::LeafForm;
 use m5_terms::node::Node;
 use m5_terms::text::Text;
@@ -163,33 +164,37 @@ fn ask(site: Site, frames: FrameQueue, at: World, reduced: Reduced) -> Result<Pr
     ensures { (P : Program) (u : World) → IfOk result (λ a. Stands P u a (outcome P u site site.threads frames at (reduction_of reduced))) }
 {
     match reduced {
-        Reduced::Says(text) => { Ok(Progress::Asks(SiteQuery::Say(text), told(site, frames, at)?)) }
+        Reduced::Says(text) => { Ok(Progress::Asks(AskOf::Say(text), told(site, frames, at)?)) }
+        Reduced::Shows(text) => { Ok(Progress::Asks(AskOf::Show(text), told(site, frames, at)?)) }
         Reduced::Sets(element, text) => {
-            Ok(Progress::Asks(SiteQuery::Set(element, text), told(site, frames, at)?))
+            Ok(Progress::Asks(AskOf::Set(element, text), told(site, frames, at)?))
         }
         Reduced::Writes(key, text) => {
-            Ok(Progress::Asks(SiteQuery::Write(key, text), told(site, frames, at)?))
+            Ok(Progress::Asks(AskOf::Write(key, text), told(site, frames, at)?))
         }
         Reduced::Gets(element) => {
             let wait = Wait::ForText(frames, at);
-            Ok(Progress::Asks(SiteQuery::GetText(element), Waiting { site, wait }))
+            Ok(Progress::Asks(AskOf::GetText(element), Waiting { site, wait }))
         }
         Reduced::Reads(key) => {
             let wait = Wait::ForRead(frames, at);
-            Ok(Progress::Asks(SiteQuery::Read(key), Waiting { site, wait }))
+            Ok(Progress::Asks(AskOf::Read(key), Waiting { site, wait }))
         }
         Reduced::Handles(element, handler) => {
             let (number, waiting) = registered(site, frames, at, handler)?;
-            Ok(Progress::Asks(SiteQuery::On(element, number), waiting))
+            Ok(Progress::Asks(AskOf::On(element, number), waiting))
         }
         Reduced::Watches(key, handler) => {
             let (number, waiting) = registered(site, frames, at, handler)?;
-            Ok(Progress::Asks(SiteQuery::Watch(key, number), waiting))
+            Ok(Progress::Asks(AskOf::Watch(key, number), waiting))
         }
         Reduced::Leaves(there, term) => {
             let thread = leaving(frames, at, there, term)?;
             let wait = Wait::Told;
-            Ok(Progress::Asks(SiteQuery::Send(there, thread), Waiting { site, wait }))
+            Ok(Progress::Asks(
+                AskOf::Send(there, LinkItem::of_thread(thread)),
+                Waiting { site, wait },
+            ))
         }
         _ => unreachable!(),
     }

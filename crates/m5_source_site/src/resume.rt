@@ -3,17 +3,20 @@
 ghost use Rattle.std.specs.Prelude.{◌≡◌, [], ◌∷◌, IfOk, Some, option_to_list, slice_get};
 ghost use Rattle.m5_terms.specs.Expression.{Expression, unary, binary};
 ghost use Rattle.m5_terms.specs.TypeExpression as type;
+ghost use Rattle.m5_terms.specs.declared.ask.AnswerOf.TheVariants as answer;
 ghost use Rattle.m5_terms.specs.declared.form.UnaryForm.TheVariants as unary_form;
+ghost use Rattle.m5_terms.specs.declared.types.World.{World};
 ghost use Rattle.m5_meaning.specs.Reduction.{unit_value, text_value, unit_or};
 ghost use Rattle.m5_meaning.specs.Step.{after_done, after_get_text, after_read, after_take, stopped_by, begun, handler_thread, handler_threads};
 ghost use Rattle.m5_source_site.specs.ClosedSite.{HasRoom};
-ghost use Rattle.m5_source_site.specs.Waits.{reply_of, resumed};
+ghost use Rattle.m5_source_site.specs.Waits.{resumed};
 
+use crate::item::{LinkItem, SiteAnswer, SiteItem};
 use crate::outcome::{return_text, step_to};
-use crate::query::{SiteItem, SiteReply};
 use crate::rules::Rules;
 use crate::site::Site;
 use crate::thread::{FrameQueue, SiteThread};
+use m5_terms::ask::AnswerOf;
 use m5_terms::form::{BinaryForm, LeafForm, UnaryForm};
 use m5_terms::node::{Node, NodeBox};
 use m5_terms::queue::Queue;
@@ -41,12 +44,12 @@ pub struct Waiting {
 }
 
 /// After a primitive that only tells, or a send.
-fn go_on(rules: &Rules<'_>, mut site: Site, reply: SiteReply) -> Option<Site>
+fn go_on(rules: &Rules<'_>, mut site: Site, reply: SiteAnswer) -> Option<Site>
     requires { HasRoom site }
-    ensures { result ≡ after_done rules.now site site.threads (reply_of reply) }
+    ensures { result ≡ after_done rules.now site site.threads reply }
 {
     match reply {
-        SiteReply::Done => {
+        AnswerOf::Done => {
             site.count_step(rules, 0);
             Some(site)
         }
@@ -59,13 +62,13 @@ fn take_text(
     site: Site,
     frames: FrameQueue,
     at: World,
-    reply: SiteReply,
+    reply: SiteAnswer,
 ) -> Result<Option<Site>, AllocError>
     requires { HasRoom site }
-    ensures { IfOk result (λ o. o ≡ after_get_text rules.now site site.threads frames at (reply_of reply)) }
+    ensures { IfOk result (λ o. o ≡ after_get_text rules.now site site.threads frames at reply) }
 {
     match reply {
-        SiteReply::Found(text) => Ok(Some(return_text(rules, site, frames, at, text)?)),
+        AnswerOf::Found(text) => Ok(Some(return_text(rules, site, frames, at, text)?)),
         _ => Ok(None),
     }
 }
@@ -98,19 +101,19 @@ fn take_read(
     site: Site,
     frames: FrameQueue,
     at: World,
-    reply: SiteReply,
+    reply: SiteAnswer,
 ) -> Result<Option<Site>, AllocError>
     requires { HasRoom site }
-    ensures { IfOk result (λ o. o ≡ after_read rules.now site site.threads frames at (reply_of reply)) }
+    ensures { IfOk result (λ o. o ≡ after_read rules.now site site.threads frames at reply) }
 {
     match reply {
-        SiteReply::Found(text) => {
+        AnswerOf::Found(text) => {
             let made = text.bytes().len() as u64;
             let value = found_value(alloc, text)?;
             let focus = Focus::Returned(at, value);
             Ok(Some(step_to(rules, site, made, frames, focus)?))
         }
-        SiteReply::Missing => {
+        AnswerOf::Missing => {
             let focus = Focus::Returned(at, missing_value(alloc)?);
             Ok(Some(step_to(rules, site, 0, frames, focus)?))
         }
@@ -118,11 +121,11 @@ fn take_read(
     }
 }
 
-fn stop(mut site: Site, reply: SiteReply) -> Option<Site>
-    ensures { result ≡ stopped_by site (reply_of reply) }
+fn stop(mut site: Site, reply: SiteAnswer) -> Option<Site>
+    ensures { result ≡ stopped_by site reply }
 {
     match reply {
-        SiteReply::Done => {
+        AnswerOf::Done => {
             site.stop();
             Some(site)
         }
@@ -195,24 +198,33 @@ fn begin_handlers(
 }
 
 /// A thread that arrives goes into the queue, and raw bytes change nothing.
+fn take_item(mut site: Site, item: LinkItem) -> Result<Site, AllocError>
+    ensures { (u v : World) → IfOk result (λ t. after_take u site (answer.Message v item) ≡ Some t) }
+{
+    match item.into_item() {
+        SiteItem::Thread(thread) => {
+            site.begin(thread)?;
+            Ok(site)
+        }
+        SiteItem::Raw(_) => Ok(site),
+    }
+}
+
+/// The threads of a message, or of the handlers that are told.
 fn take_news(
     alloc: Global,
     here: World,
-    mut site: Site,
-    reply: SiteReply,
+    site: Site,
+    reply: SiteAnswer,
 ) -> Result<Option<Site>, AllocError>
-    ensures { IfOk result (λ o. o ≡ after_take here site (reply_of reply)) }
+    ensures { IfOk result (λ o. o ≡ after_take here site reply) }
 {
     match reply {
-        SiteReply::Message(_, SiteItem::Thread(thread)) => {
-            site.begin(thread)?;
-            Ok(Some(site))
-        }
-        SiteReply::Message(_, SiteItem::Raw(_)) => Ok(Some(site)),
-        SiteReply::Fired(_, number, text) => {
+        AnswerOf::Message(_, item) => Ok(Some(take_item(site, item)?)),
+        AnswerOf::Fired(_, number, text) => {
             Ok(Some(begin_handlers(alloc, here, site, &[number], &text)?))
         }
-        SiteReply::Event(_, numbers, text) => {
+        AnswerOf::Event(_, numbers, text) => {
             Ok(Some(begin_handlers(alloc, here, site, numbers.as_slice(), &text)?))
         }
         _ => Ok(None),
@@ -226,10 +238,10 @@ impl Waiting {
         alloc: Global,
         rules: &Rules<'_>,
         here: World,
-        reply: SiteReply,
+        reply: SiteAnswer,
     ) -> Result<Option<Site>, AllocError>
         requires { HasRoom self.site }
-        ensures { IfOk result (λ o. o ≡ resumed rules.now here self.site self.wait (reply_of reply)) }
+        ensures { IfOk result (λ o. o ≡ resumed rules.now here self.site self.wait reply) }
     {
         let Waiting { site, wait } = self;
         match wait {

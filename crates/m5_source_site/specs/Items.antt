@@ -1,9 +1,16 @@
--- How a proof tells links' items apart.
+-- What the items of links stand for, and how a proof tells such items apart.
 use Rattle.std.specs.Prelude.{◌≡◌, ℕ, List, ◌⊎◌, refl}
 use Rattle.std.proofs.Common.{inl, inr}
 use Rattle.std.specs.Coded.{Coded, code_by, coded⊎, coded_list, coded_ℕ}
 use Rattle.m5_meaning.specs.Site.{Thread, Item, thread, raw}
+use Rattle.m5_source_site.specs.declared.item.SiteItem.{SiteItem}
+use Rattle.m5_source_site.specs.declared.item.SiteItem.TheVariants as site_item
 use Rattle.m5_source_site.specs.Codes.{thread_code}
+
+-- the definitions' item
+abbrev pub item_of : SiteItem → Item
+item_of (site_item.Thread t) = thread t
+item_of (site_item.Raw bytes) = raw bytes
 
 abbrev pub parted : Item → Thread ⊎ List ℕ
 parted (thread t) = inl t
