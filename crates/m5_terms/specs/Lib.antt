@@ -16,4 +16,5 @@ pub mod Matching
 pub mod Playing
 pub mod Related
 pub mod Answers
+pub mod Laws
 pub mod CountsDown
