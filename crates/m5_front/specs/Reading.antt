@@ -6,10 +6,9 @@ use Rattle.m5_tree.specs.Program.{IsProgram}
 use Rattle.m5_tree.specs.Level.{NoneDeep}
 use Rattle.m5_tree.specs.declared.tree.Tree.{Tree}
 use Rattle.m5_raw.specs.RawTerm.{RawTerm}
-use Rattle.m5_scope.specs.Resolving.{found}
+use Rattle.m5_terms.specs.Outcome.{found}
 use Rattle.m5_scope.specs.Program.{tree_resolved}
 use Rattle.m5_typing.specs.Program.{ProgramTerm}
-use Rattle.m5_elaborate.specs.Outcome as typing
 use Rattle.m5_elaborate.specs.Checked.{elaborated}
 use Rattle.m5_front.specs.declared.program.Read.{Read}
 use Rattle.m5_front.specs.declared.refusal.FrontEnd.{FrontEnd}
@@ -30,7 +29,7 @@ pub record IsRead (text : List ℕ) (tree : Tree) (raw : RawTerm) : Type 0 where
 -- the text has a tree whose names are resolved, and the types of that are found
 pub record IsAccepted (text : List ℕ) (tree : Tree) (raw : RawTerm) (program : ProgramTerm) : Type 0 where
   pub read : IsRead text tree raw
-  pub typed : elaborated raw ≡ typing.found program
+  pub typed : elaborated raw ≡ found program
 
 -- memory is wanting, and the text is not refused
 abbrev pub IsNoRefusal : FrontEnd → Type 0
