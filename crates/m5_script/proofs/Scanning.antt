@@ -34,11 +34,11 @@ last_at s i h k = one_at s i h ∙ ap (λ (r : List ℕ). get_or s i 0 ∷ r) (d
 -- what is found in a list without any is not any
 among_real : (test : World → Bool) (ws : List World) → Each (λ (w : World). w ≢ Any) ws → IfSome (find test ws) (λ w. w ≢ Any)
 among_real test [] h = tt
-among_real test (w ∷ ws) h = by (test w)
+among_real test (w ∷ ws) h = by (test w) (among_real test ws h.1)
   where
-    by : (b : Bool) → IfSome (cond b (Some w) (find test ws)) (λ v. v ≢ Any)
-    by true = h.0
-    by false = among_real test ws h.1
+    by : (b : Bool) → IfSome (find test ws) (λ v. v ≢ Any) → IfSome (cond b (Some w) (find test ws)) (λ v. v ≢ Any)
+    by true k = h.0
+    by false k = k
 
 pub named_real : (word : List ℕ) → IfSome (find (λ w. bytes_eq word (world_word w)) site_worlds) (λ w. w ≢ Any)
 named_real word = among_real (λ w. bytes_eq word (world_word w)) site_worlds none-any

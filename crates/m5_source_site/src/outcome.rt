@@ -165,6 +165,7 @@ fn ask(site: Site, frames: FrameQueue, at: World, reduced: Reduced) -> Result<Pr
 {
     match reduced {
         Reduced::Says(text) => { Ok(Progress::Asks(AskOf::Say(text), told(site, frames, at)?)) }
+        Reduced::Shows(text) => { Ok(Progress::Asks(AskOf::Show(text), told(site, frames, at)?)) }
         Reduced::Sets(element, text) => {
             Ok(Progress::Asks(AskOf::Set(element, text), told(site, frames, at)?))
         }
