@@ -32,7 +32,8 @@ use Rattle.m5_elaborate.specs.declared.names.Bound.TheVariants as bound
 use Rattle.m5_elaborate.specs.declared.names.Binding.TheVariants.{Nothing, One, Two}
 use Rattle.m5_elaborate.specs.declared.parts.Inside.{Inside}
 use Rattle.m5_elaborate.specs.declared.arms.Arms.{Arms}
-use Rattle.m5_elaborate.specs.Outcome.{Outcome, found, and_then}
+use Rattle.m5_terms.specs.Outcome.{found, and_then}
+use Rattle.m5_elaborate.specs.Outcome.{Outcome}
 use Rattle.m5_elaborate.specs.Names.{under}
 use Rattle.m5_elaborate.specs.Parts.{if_same}
 use Rattle.m5_elaborate.specs.Erased.{erased}
