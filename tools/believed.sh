@@ -2,7 +2,7 @@
 # Prints the files of definitions that a reader of the headline has to believe: those that its statement reaches by `use`
 # lines, each with its lines and the sections of docs/ to hold it against; then those that other claims reach besides; and
 # how many files are left. Which section a file belongs to is read off the paragraphs of docs/ that begin with
-# 'Definitions:'. Fails where a file to be believed stands in none.
+# 'Definitions:'. Fails where a file to be believed stands in none of these, or one of these names a file that is not there.
 set -u
 cd "$(dirname "$0")/.." || exit 1
 . tools/crates.sh
@@ -97,6 +97,9 @@ rest=$(without "$all" "$believed $besides")
 
 problems=$(mktemp) || exit 1
 trap 'rm -f "$problems"' EXIT
+sections | while IFS=$'\t' read -r file section; do
+  [ -f "crates/$file.antt" ] || echo "believed: $section names $file, which is not there" >> "$problems"
+done
 echo "The headline reaches $(wc -w <<< "$believed") files of definitions ($(lines $believed)):"
 echo
 table $believed 2>> "$problems"
