@@ -8,9 +8,9 @@ cd "$(dirname "$0")/.." || exit 1
 . tools/crates.sh
 
 # Where the headline's statement begins, and where the statements of other claims begin.
-headline='m5_cli/specs/Leaves m5_cli/specs/Words m5_cli/specs/Status m5_base/specs/Causes'
-claims='m5_terms/specs/Diagram m5_lex/specs/Shown m5_scope/specs/Binders m5_typing/specs/Laws
-  m5_network/specs/Laws m5_sound/specs/Laws m5_hall/specs/Passes m5_hall/specs/History'
+headline='m5_cli/specs/Headline m5_cli/specs/Status'
+claims='m5_terms/specs/Playing m5_terms/specs/Related m5_keys/specs/Keys m5_lex/specs/Shown m5_scope/specs/Binders m5_typing/specs/Laws
+  m5_network/specs/Laws m5_site_sound/specs/Laws m5_sound/specs/Laws m5_hall/specs/Passes m5_hall/specs/History'
 
 # The files that are reached by `use` lines from those that are named, one on a line.
 reached() {

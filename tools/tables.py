@@ -53,7 +53,10 @@ def obey(row, order, rest):
     elif order == b"each":
         row.add([*bytes_of(rest)])
     else:
-        count, text = BRACKETED.fullmatch(rest).groups()
+        bracketed = BRACKETED.fullmatch(rest or b"")
+        if not bracketed:
+            raise ValueError("a text stands between [ and ]")
+        count, text = bracketed.groups()
         if order == b"put":
             row.add([text])
         elif order == b"times":
@@ -84,7 +87,7 @@ def rows_of(path):
                 obey(row, *order.groups())
             elif row:
                 row.add([line + b"\n"])
-        except (AttributeError, TypeError, ValueError) as error:
+        except (TypeError, ValueError) as error:
             sys.exit(f"{path}:{number}: not understood: {error}")
     return rows
 

@@ -1,7 +1,6 @@
 //! The lines of refused program texts and scripts, and the statuses of faults.
 
 ghost use Rattle.std.specs.Prelude.{◌≡◌, ◌++◌, IfOk, OnOk};
-ghost use Rattle.std.specs.Fmt.{decimal};
 ghost use Rattle.m5_cli.specs.Refusal.{kind_word, fault_word, place_words, refusal_line, line_kind_word, script_line, status_of};
 
 use crate::status::Status;
@@ -9,6 +8,7 @@ use m5_elaborate::end::Kind;
 use m5_front::refusal::{Fault, Refusal};
 use m5_lex::Place;
 use m5_script::reading::LineKind;
+use m5_terms::decimal::put_number;
 use m5_terms::text::Text;
 use std::alloc::{AllocError, Global};
 
@@ -49,21 +49,13 @@ fn put_fault(out: &mut Vec<u8>, fault: Fault) -> Result<(), AllocError>
     }
 }
 
-/// Adds a number in decimal.
-fn put_number(alloc: Global, out: &mut Vec<u8>, number: u32) -> Result<(), AllocError>
-    ensures { OnOk result (out.new.items ≡ out.old.items ++ decimal number) }
-{
-    let digits = number.to_string(alloc)?;
-    out.extend_from_slice(digits.as_bytes())
-}
-
 /// Adds line and column.
 fn put_place(alloc: Global, out: &mut Vec<u8>, place: Place) -> Result<(), AllocError>
     ensures { OnOk result (out.new.items ≡ out.old.items ++ place_words place) }
 {
-    put_number(alloc, out, place.line)?;
+    put_number(alloc, out, u64::from(place.line))?;
     out.push(b':')?;
-    put_number(alloc, out, place.column)
+    put_number(alloc, out, u64::from(place.column))
 }
 
 /// The line of a refusal: its fault and its place.
@@ -99,7 +91,7 @@ pub(crate) fn script_text(alloc: Global, number: u32, kind: LineKind) -> Result<
 {
     let mut out = Vec::new(alloc);
     out.extend_from_slice(b"refused script ")?;
-    put_number(alloc, &mut out, number)?;
+    put_number(alloc, &mut out, u64::from(number))?;
     out.push(b' ')?;
     put_line_kind(&mut out, kind)?;
     out.push(b'\n')?;

@@ -26,12 +26,14 @@ use Rattle.m5_typing.specs.Value.{is_value_form}
 use Rattle.m5_typing.specs.Rules.{IsSmall, LeafRule, unary_rule, binary_rule, ternary_rule}
 use Rattle.m5_typing.specs.Typing.{Typed, UnaryTyped, BinaryTyped, TernaryTyped, part_context}
 use Rattle.m5_raw.specs.Resolved.{Resolved, leaf, unary, binary, ternary}
-use Rattle.m5_raw.specs.InText.{in_text, leaf_in_text, unary_in_text}
+use Rattle.m5_terms.specs.InText.{leaf_in_text, unary_in_text}
+use Rattle.m5_raw.specs.InText.{in_text}
 use Rattle.m5_elaborate.specs.declared.names.Bound.TheVariants as bound
 use Rattle.m5_elaborate.specs.declared.names.Binding.TheVariants.{Nothing, One, Two}
 use Rattle.m5_elaborate.specs.declared.parts.Inside.{Inside}
 use Rattle.m5_elaborate.specs.declared.arms.Arms.{Arms}
-use Rattle.m5_elaborate.specs.Outcome.{Outcome, found, and_then}
+use Rattle.m5_terms.specs.Outcome.{found, and_then}
+use Rattle.m5_elaborate.specs.Outcome.{Outcome}
 use Rattle.m5_elaborate.specs.Names.{under}
 use Rattle.m5_elaborate.specs.Parts.{if_same}
 use Rattle.m5_elaborate.specs.Erased.{erased}

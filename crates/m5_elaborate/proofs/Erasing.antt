@@ -1,11 +1,8 @@
 -- A term and the one without its places have as many nodes, and both or neither are of a text.
-use Rattle.std.proofs.Common.{◌≡◌, ℕ, ◌≤◌, ◌<◌, ◌&&◌, IsTrue, ℤ, pos, negsuc, List, [], ◌∷◌, length, slice_index_or, sum_by, refl, ap, subst, sym, ◌∙◌, arith}
+use Rattle.std.proofs.Common.{◌≡◌, ℕ, ◌≤◌, ◌<◌, ◌&&◌, IsTrue, List, [], ◌∷◌, length, slice_index_or, sum_by, refl, ap, subst, sym, ◌∙◌, arith}
 use Rattle.std.specs.List.{list_all}
 use Rattle.std.proofs.lemmas.List.Sums.{get_or-le-sum_by, sum_by-cons}
-use Rattle.m5_terms.specs.declared.form.LeafForm.{LeafForm}
-use Rattle.m5_terms.specs.declared.form.LeafForm.TheVariants as leaf_form
-use Rattle.m5_terms.specs.declared.form.UnaryForm.{UnaryForm}
-use Rattle.m5_terms.specs.declared.form.UnaryForm.TheVariants as unary_form
+use Rattle.m5_terms.specs.InText.{unary_in_text}
 use Rattle.m5_raw.specs.Resolved.{Resolved, leaf, unary, binary, ternary, node_count}
 use Rattle.m5_raw.specs.InText as raw_text
 use Rattle.m5_raw.specs.RawTerm as raws
@@ -14,40 +11,15 @@ use Rattle.m5_raw.specs.declared.function.Function.{Function}
 use Rattle.m5_typing.specs.Program as programs
 use Rattle.m5_elaborate.specs.Erased.{erased, erased_function, erased_functions, erased_program}
 
-leaf_nodes : (f : LeafForm) → programs.leaf_type_nodes f ≡ raw_text.leaf_type_nodes f
-leaf_nodes (leaf_form.Nil A) = refl
-leaf_nodes _ = refl
-
-unary_nodes : (f : UnaryForm) → programs.unary_type_nodes f ≡ raw_text.unary_type_nodes f
-unary_nodes (unary_form.Fn x A) = refl
-unary_nodes (unary_form.Rec g x A B) = refl
-unary_nodes (unary_form.Inl T) = refl
-unary_nodes (unary_form.Inr T) = refl
-unary_nodes _ = refl
-
 pub nodes : (r : Resolved) → programs.written_nodes (erased r) ≡ raw_text.written_nodes r
-nodes (leaf p f) = omega (arith, leaf_nodes f)
-nodes (unary p f a) = omega (arith, unary_nodes f, nodes a)
+nodes (leaf p f) = refl
+nodes (unary p f a) = omega (arith, nodes a)
 nodes (binary p f a b) = omega (arith, nodes a, nodes b)
 nodes (ternary p f a b c) = omega (arith, nodes a, nodes b, nodes c)
 
-natural : (n : ℤ) → programs.is_natural n ≡ raw_text.is_natural n
-natural (pos n) = refl
-natural (negsuc n) = refl
-
-leaf_text : (f : LeafForm) → programs.leaf_in_text f ≡ raw_text.leaf_in_text f
-leaf_text (leaf_form.Int n) = natural n
-leaf_text (leaf_form.Str s) = refl
-leaf_text (leaf_form.CellAt w n) = refl
-leaf_text _ = refl
-
-unary_text : (f : UnaryForm) → programs.unary_in_text f ≡ raw_text.unary_in_text f
-unary_text (unary_form.Held w) = refl
-unary_text _ = refl
-
 pub text : (r : Resolved) → programs.in_text (erased r) ≡ raw_text.in_text r
-text (leaf p f) = leaf_text f
-text (unary p f a) = λ i. unary_text f i && text a i
+text (leaf p f) = refl
+text (unary p f a) = λ i. unary_in_text f && text a i
 text (binary p f a b) = λ i. text a i && text b i
 text (ternary p f a b c) = λ i. text a i && (text b i && text c i)
 

@@ -5,10 +5,15 @@ use Rattle.m5_lex.specs.declared.place.Place.{Place}
 use Rattle.m5_terms.specs.TypeExpression.{TypeExpression, type_node_count}
 use Rattle.m5_typing.specs.Rules.{IsSmall}
 use Rattle.m5_elaborate.specs.declared.end.TypeEnd.{TypeEnd}
-use Rattle.m5_elaborate.specs.Outcome.{Outcome, found, fault, and_then}
+use Rattle.m5_terms.specs.Outcome.{found, fault, and_then}
+use Rattle.m5_elaborate.specs.Outcome.{Outcome}
 use Rattle.m5_elaborate.specs.Checked.{limited}
 
-pub found_is : {A : Type 0} (a b : A) → found a ≡ found b → a ≡ b
+-- what is found, as an outcome of types
+abbrev pub finds : {A : Type 0} → A → Outcome A
+finds a = found a
+
+pub found_is : {A : Type 0} (a b : A) → finds a ≡ finds b → a ≡ b
 found_is a b e = cc
 
 -- both steps found something

@@ -9,7 +9,8 @@ use Rattle.m5_typing.specs.Context.{Bound, Context}
 use Rattle.m5_raw.specs.Resolved.{Resolved, binary}
 use Rattle.m5_elaborate.specs.declared.end.TypeEnd.{TypeEnd}
 use Rattle.m5_elaborate.specs.declared.pairs.Waiting.{Waiting}
-use Rattle.m5_elaborate.specs.Outcome.{Outcome, found, fault, and_then, IsFault}
+use Rattle.m5_terms.specs.Outcome.{found, fault, and_then}
+use Rattle.m5_elaborate.specs.Outcome.{Outcome, IsFault}
 use Rattle.m5_elaborate.specs.Pairs.{paired, nested, nested_terms}
 use Rattle.m5_elaborate.specs.Erased.{erased}
 use Rattle.m5_elaborate.specs.Checked.{checked, limited}

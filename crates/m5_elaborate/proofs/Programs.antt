@@ -17,7 +17,8 @@ use Rattle.m5_raw.specs.RawTerm.{RawTerm, IsRaw}
 use Rattle.m5_raw.specs.declared.function.Function.{Function}
 use Rattle.m5_elaborate.specs.declared.end.TypeEnd.{TypeEnd}
 use Rattle.m5_elaborate.specs.declared.end.TypeEnd.TheVariants.{Memory}
-use Rattle.m5_elaborate.specs.Outcome.{found, fault, and_then, IsFault}
+use Rattle.m5_terms.specs.Outcome.{found, fault, and_then}
+use Rattle.m5_elaborate.specs.Outcome.{IsFault}
 use Rattle.m5_elaborate.specs.Parts.{if_same}
 use Rattle.m5_elaborate.specs.Erased.{erased, erased_function, erased_functions, erased_program}
 use Rattle.m5_elaborate.specs.Checked.{checked, limited_type, declared_bound, signatures, function_checked, main_checked, rest_elaborated, elaborated}

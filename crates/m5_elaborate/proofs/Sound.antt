@@ -23,8 +23,10 @@ use Rattle.m5_typing.specs.Value.{is_value_form}
 use Rattle.m5_typing.specs.Rules.{IsSmall, LeafRule, Pick}
 use Rattle.m5_typing.specs.Typing.{Typed, UnaryTyped, BinaryTyped, TernaryTyped, part_context}
 use Rattle.m5_raw.specs.Resolved.{Resolved, leaf, unary, binary, ternary}
-use Rattle.m5_raw.specs.InText.{in_text, leaf_in_text, unary_in_text}
-use Rattle.m5_elaborate.specs.Outcome.{found, refused, and_then}
+use Rattle.m5_terms.specs.InText.{leaf_in_text, unary_in_text}
+use Rattle.m5_raw.specs.InText.{in_text}
+use Rattle.m5_terms.specs.Outcome.{found, and_then}
+use Rattle.m5_elaborate.specs.Outcome.{refused}
 use Rattle.m5_elaborate.specs.declared.end.Kind.TheVariants.{WrongWorld}
 use Rattle.m5_elaborate.specs.declared.names.Bound.TheVariants as bound
 use Rattle.m5_elaborate.specs.declared.names.Bound.TheVariants.{Local}
@@ -40,7 +42,7 @@ use Rattle.m5_elaborate.specs.Synthesis.{unary_world, unary_binding, unary_type,
 use Rattle.m5_elaborate.specs.Checked.{checked}
 use Rattle.m5_terms.proofs.SiteWorlds.{same-true}
 use Rattle.m5_elaborate.proofs.Same.{left_true, right_true, type_same}
-use Rattle.m5_elaborate.proofs.Outcomes.{found_is, both, passed, allowed, limits}
+use Rattle.m5_elaborate.proofs.Outcomes.{finds, found_is, both, passed, allowed, limits}
 
 pub record IsFunction (A : TypeExpression) : Type 0 where
   pub from : TypeExpression
@@ -156,7 +158,7 @@ unary_sound Spawn p w a A B K P e s h =
 unary_sound (Held v) p w a A B K P e s h = cc
 
 -- where the second part stands
-moved : (i j : Inside) (G : Context) (P : World → Context → TypeExpression → Type 0) (Y : TypeExpression) → found i ≡ found j → P j.world (under j.binding G) Y → P i.world (under i.binding G) Y
+moved : (i j : Inside) (G : Context) (P : World → Context → TypeExpression → Type 0) (Y : TypeExpression) → finds i ≡ finds j → P j.world (under j.binding G) Y → P i.world (under i.binding G) Y
 moved i j G P Y e h = subst (λ k. P k.world (under k.binding G) Y) (sym (found_is i j e)) h
 
 abbrev at_world : World → Binding → Inside

@@ -12,7 +12,8 @@ use Rattle.m5_raw.specs.Resolved.{Resolved, leaf, unary, binary, ternary}
 use Rattle.m5_raw.specs.RawTerm.{RawTerm}
 use Rattle.m5_raw.specs.declared.function.Function.{Function}
 use Rattle.m5_elaborate.specs.declared.end.Kind.TheVariants.{TooLarge}
-use Rattle.m5_elaborate.specs.Outcome.{Outcome, found, refused, and_then}
+use Rattle.m5_terms.specs.Outcome.{found, and_then}
+use Rattle.m5_elaborate.specs.Outcome.{Outcome, refused}
 use Rattle.m5_elaborate.specs.Names.{under}
 use Rattle.m5_elaborate.specs.Parts.{if_same}
 use Rattle.m5_elaborate.specs.Erased.{erased, erased_program}

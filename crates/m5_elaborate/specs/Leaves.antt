@@ -10,7 +10,8 @@ use Rattle.m5_terms.specs.declared.form.LeafForm.{LeafForm}
 use Rattle.m5_terms.specs.declared.form.LeafForm.TheVariants as leaf_form
 use Rattle.m5_typing.specs.Context.{Bound, local, valid, Context}
 use Rattle.m5_elaborate.specs.declared.end.Kind.TheVariants.{WrongWorld, NotGeneric}
-use Rattle.m5_elaborate.specs.Outcome.{Outcome, found, refused}
+use Rattle.m5_terms.specs.Outcome.{found}
+use Rattle.m5_elaborate.specs.Outcome.{Outcome, refused}
 
 -- no world is known
 abbrev pub is_any : World → Bool

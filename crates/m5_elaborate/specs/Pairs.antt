@@ -4,7 +4,8 @@ use Rattle.m5_terms.specs.Expression.{Expression, binary}
 use Rattle.m5_terms.specs.TypeExpression.{TypeExpression, product}
 use Rattle.m5_terms.specs.declared.form.BinaryForm.TheVariants.{Pair}
 use Rattle.m5_elaborate.specs.declared.pairs.Waiting.{Waiting}
-use Rattle.m5_elaborate.specs.Outcome.{Outcome, found, and_then}
+use Rattle.m5_terms.specs.Outcome.{found, and_then}
+use Rattle.m5_elaborate.specs.Outcome.{Outcome}
 use Rattle.m5_elaborate.specs.Checked.{limited}
 
 -- a pair's type, from what its second part gives

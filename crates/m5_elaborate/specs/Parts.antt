@@ -5,7 +5,8 @@ use Rattle.m5_terms.specs.TypeExpression as types
 use Rattle.m5_terms.specs.TypeExpression.{TypeExpression, unit, product, sum, function, list, cell, sham, mobile, same_type}
 use Rattle.m5_terms.specs.declared.types.World.{World}
 use Rattle.m5_elaborate.specs.declared.end.Kind.TheVariants.{NotMobile, Mismatch, NotFunction, NotPair, NotSum, NotList, NotCell, NotGeneric}
-use Rattle.m5_elaborate.specs.Outcome.{Outcome, found, refused}
+use Rattle.m5_terms.specs.Outcome.{found}
+use Rattle.m5_elaborate.specs.Outcome.{Outcome, refused}
 use Rattle.m5_elaborate.specs.Leaves.{is_any}
 
 -- C, where a check on types holds

@@ -18,7 +18,8 @@ use Rattle.m5_elaborate.specs.declared.names.Binding.TheVariants.{Nothing, One, 
 use Rattle.m5_elaborate.specs.declared.parts.Inside.{Inside}
 use Rattle.m5_elaborate.specs.declared.arms.Arms.{Arms}
 use Rattle.m5_elaborate.specs.declared.end.Kind.TheVariants.{WrongWorld, NotMobile, Mismatch, NotSum, NotList, NotAt, NotSham, NotGeneric}
-use Rattle.m5_elaborate.specs.Outcome.{Outcome, found, refused}
+use Rattle.m5_terms.specs.Outcome.{found}
+use Rattle.m5_elaborate.specs.Outcome.{Outcome, refused}
 use Rattle.m5_elaborate.specs.Leaves.{is_any}
 use Rattle.m5_elaborate.specs.Parts.{if_same, first_of, second_of, content_of, applied, added, stored, injected_left, injected_right, hold_type, sham_type, moved_type}
 

@@ -3,7 +3,8 @@
 ghost use Rattle.std.specs.Prelude.{◌≡◌, ◌≢◌, ◌<◌, ◌^◌, [], IfErr, IfOk, OnOk};
 ghost use Rattle.m5_raw.specs.Resolved.{node_count};
 ghost use Rattle.m5_raw.specs.RawTerm.{IsRaw};
-ghost use Rattle.m5_elaborate.specs.Outcome.{found, Ends, IsFault};
+ghost use Rattle.m5_terms.specs.Outcome.{found};
+ghost use Rattle.m5_elaborate.specs.Outcome.{Ends, IsFault};
 ghost use Rattle.m5_elaborate.specs.Names.{entries, IsBare};
 ghost use Rattle.m5_elaborate.specs.Checked.{function_checked, main_checked, rest_elaborated, elaborated};
 ghost use Rattle.m5_elaborate.specs.Erased.{erased_program};

@@ -2,7 +2,8 @@
 
 ghost use Rattle.std.specs.Prelude.{◌≡◌, ◌++◌, ◌∷◌, [], IfErr, IfOk, OnOk};
 ghost use Rattle.m5_raw.specs.Resolved.{place_of};
-ghost use Rattle.m5_elaborate.specs.Outcome.{found, Ends};
+ghost use Rattle.m5_terms.specs.Outcome.{found};
+ghost use Rattle.m5_elaborate.specs.Outcome.{Ends};
 ghost use Rattle.m5_elaborate.specs.Pairs.{nested};
 
 use crate::end::TypeEnd;

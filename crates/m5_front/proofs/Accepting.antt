@@ -9,7 +9,8 @@ use Rattle.m5_parse.specs.declared.parse.ParseEnd.{ParseEnd}
 use Rattle.m5_parse.specs.declared.parse.ParseEnd.TheVariants as parse
 use Rattle.m5_tree.specs.declared.tree.Tree.{Tree}
 use Rattle.m5_raw.specs.RawTerm.{RawTerm}
-use Rattle.m5_scope.specs.Resolving.{Outcome, found, fault, IsFault}
+use Rattle.m5_terms.specs.Outcome.{found, fault}
+use Rattle.m5_scope.specs.Resolving.{Outcome, IsFault}
 use Rattle.m5_scope.specs.declared.end.ScopeEnd.{ScopeEnd}
 use Rattle.m5_scope.specs.declared.end.ScopeEnd.TheVariants as scope
 use Rattle.m5_scope.specs.Program.{tree_resolved}
@@ -43,10 +44,10 @@ resolved_accepts o raw (scope.Repeated at) r h k is = not_both o raw (scope.Repe
 resolved_accepts o raw (scope.BadExtern at) r h k is = not_both o raw (scope.BadExtern at) h (k (λ e. cc))
 
 -- types that are found have no fault
-not_both_types : {P : Type 0} (o : typing.Outcome ProgramTerm) (program : ProgramTerm) (e : TypeEnd) → o ≡ typing.found program → o ≡ typing.fault e → P
+not_both_types : {P : Type 0} (o : typing.Outcome ProgramTerm) (program : ProgramTerm) (e : TypeEnd) → o ≡ found program → o ≡ fault e → P
 not_both_types o program e h k = cc
 
-pub typed_accepts : (o : typing.Outcome ProgramTerm) (program : ProgramTerm) (e : TypeEnd) (r : FrontEnd) → o ≡ typing.found program → typing.IsFault o e → r ≡ type_refusal_of e → IsNoRefusal r
+pub typed_accepts : (o : typing.Outcome ProgramTerm) (program : ProgramTerm) (e : TypeEnd) (r : FrontEnd) → o ≡ found program → typing.IsFault o e → r ≡ type_refusal_of e → IsNoRefusal r
 typed_accepts o program types.Memory r h k is = subst IsNoRefusal (sym is) tt
 typed_accepts o program (types.Refused kind at) r h k is = not_both_types o program (types.Refused kind at) h (k (λ e. cc))
 

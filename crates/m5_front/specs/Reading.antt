@@ -6,10 +6,9 @@ use Rattle.m5_tree.specs.Program.{IsProgram}
 use Rattle.m5_tree.specs.Level.{NoneDeep}
 use Rattle.m5_tree.specs.declared.tree.Tree.{Tree}
 use Rattle.m5_raw.specs.RawTerm.{RawTerm}
-use Rattle.m5_scope.specs.Resolving.{found}
+use Rattle.m5_terms.specs.Outcome.{found}
 use Rattle.m5_scope.specs.Program.{tree_resolved}
 use Rattle.m5_typing.specs.Program.{ProgramTerm}
-use Rattle.m5_elaborate.specs.Outcome as typing
 use Rattle.m5_elaborate.specs.Checked.{elaborated}
 use Rattle.m5_front.specs.declared.program.Read.{Read}
 use Rattle.m5_front.specs.declared.refusal.FrontEnd.{FrontEnd}
@@ -28,7 +27,7 @@ pub record IsRead (listing : Listing) (tree : Tree) (raw : RawTerm) : Type 0 whe
 -- the tokens have a tree whose names are resolved, and the types of that are found
 pub record AreAccepted (listing : Listing) (tree : Tree) (raw : RawTerm) (program : ProgramTerm) : Type 0 where
   pub read : IsRead listing tree raw
-  pub typed : elaborated raw ≡ typing.found program
+  pub typed : elaborated raw ≡ found program
 
 -- the text has tokens, and these are accepted
 pub record IsAccepted (text : List ℕ) (tree : Tree) (raw : RawTerm) (program : ProgramTerm) : Type 0 where

@@ -5,12 +5,11 @@ use Rattle.m5_lex.specs.Lexed.{lexed, bad_byte, bad_number}
 use Rattle.m5_lex.specs.Tokens.{Listing}
 use Rattle.m5_tree.specs.declared.tree.Tree.{Tree}
 use Rattle.m5_parse.specs.Answers.{IsSyntaxFault, IsDeepFault}
-use Rattle.m5_scope.specs.Resolving.{fault}
+use Rattle.m5_terms.specs.Outcome.{fault}
 use Rattle.m5_scope.specs.Program.{tree_resolved}
 use Rattle.m5_scope.specs.declared.end.ScopeEnd.{ScopeEnd}
 use Rattle.m5_scope.specs.declared.end.ScopeEnd.TheVariants as scope
 use Rattle.m5_raw.specs.RawTerm.{RawTerm}
-use Rattle.m5_elaborate.specs.Outcome as typing
 use Rattle.m5_elaborate.specs.Checked.{elaborated}
 use Rattle.m5_elaborate.specs.declared.end.TypeEnd.{TypeEnd}
 use Rattle.m5_elaborate.specs.declared.end.TypeEnd.TheVariants as types
@@ -31,7 +30,7 @@ pub record HasTypeFault (listing : Listing) (end : TypeEnd) : Type 0 where
   pub tree : Tree
   pub raw : RawTerm
   pub read : IsRead listing tree raw
-  pub fault : elaborated raw ≡ typing.fault end
+  pub fault : elaborated raw ≡ fault end
 
 -- what is wrong with tokens: the first that no program has there, or the text's end; the first that is too deep; the first
 -- fault of their tree's names, or of its types

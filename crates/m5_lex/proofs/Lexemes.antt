@@ -9,29 +9,8 @@ use Rattle.std.proofs.lemmas.List.{get_or-take, get_or_past}
 use Rattle.std.proofs.lemmas.List.Elements.{All-push}
 use Rattle.std.proofs.lemmas.List.Sums.{prefix_len_passes, prefix_len-le-length}
 use Rattle.std.proofs.lemmas.List.Folds.{length-prefix_len}
-use Rattle.m5_lex.specs.Alphabet.{is_letter, is_digit, is_name_byte, is_plain, escape, place_of, symbols}
-use Rattle.m5_lex.specs.Alphabet.{is_text_byte}
-
--- ---- text literals
-
-pub texts_push : (v w : List ℕ) (x : ℕ) → AllPass is_text_byte v → is_text_byte x ≡ true → w ≡ v ++ x ∷ [] → AllPass is_text_byte w
-texts_push v w x h t e = rw e (All-push (λ y. is_text_byte y ≡ true) v x h t)
-
-pub plain_text : (x : ℕ) → is_plain x ≡ true → is_text_byte x ≡ true
-plain_text x h = grind (arith, nat_tests)
-
-abbrev GivesText : Option ℕ → Type 0
-GivesText o = IfSome o (λ x. is_text_byte x ≡ true)
-
-either_text : (b : Bool) (x : ℕ) (o : Option ℕ) → is_text_byte x ≡ true → GivesText o → GivesText (cond b (Some x) o)
-either_text true x o h k = h
-either_text false x o h k = k
-
-escape_gives : (x : ℕ) → GivesText (escape x)
-escape_gives x = either_text (eqb x 34) 34 _ refl (either_text (eqb x 92) 92 _ refl (either_text (eqb x 110) 10 _ refl (either_text (eqb x 116) 9 None refl tt)))
-
-pub escape_text : (x y : ℕ) → escape x ≡ Some y → is_text_byte y ≡ true
-escape_text x y h = subst GivesText h (escape_gives x)
+use Rattle.m5_terms.specs.Decimal.{is_digit}
+use Rattle.m5_lex.specs.Alphabet.{is_letter, is_name_byte, place_of, symbols}
 
 -- ---- names and numbers
 

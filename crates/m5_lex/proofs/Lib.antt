@@ -1,6 +1,5 @@
 pub mod Placing
 pub mod Scanning
-pub mod Numbers
 pub mod Lexemes
 pub mod Taking
 pub mod Spelled

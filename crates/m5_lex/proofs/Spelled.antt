@@ -9,15 +9,18 @@ use Rattle.std.proofs.lemmas.Fmt.{decimal_is_IsNumeral}
 use Rattle.std.proofs.lemmas.List.Elements.{All-cons}
 use Rattle.std.proofs.lemmas.List.Sums.{take_while-cons}
 use Rattle.std.proofs.lemmas.Str.Parse.{digit_from_value}
+use Rattle.m5_terms.specs.Text.{IsText}
+use Rattle.m5_terms.specs.Decimal.{is_digit}
+use Rattle.m5_terms.specs.Quoted.{escaping, quoted}
+use Rattle.m5_terms.proofs.Quoting.{quoted_shown}
 use Rattle.m5_lex.specs.declared.token.Token.{Token}
 use Rattle.m5_lex.specs.declared.token.Token.TheVariants.{Name, Number, Literal, Word, Sign}
-use Rattle.m5_lex.specs.declared.lexeme.Quoted.TheVariants.{Closed}
 use Rattle.m5_lex.specs.declared.lexeme.Lexeme.{Lexeme}
 use Rattle.m5_lex.specs.declared.lexeme.Lexeme.TheVariants as lexemes
-use Rattle.m5_lex.specs.Alphabet.{is_blank, is_letter, is_digit, is_name_byte, is_plain, is_text_byte, opens, keywords, symbols, place_of}
-use Rattle.m5_lex.specs.Lexeme.{joined, quoted, word_or_name, name_lexeme, number_lexeme, literal_lexeme, symbol_lexeme, lexeme_by, lexeme}
+use Rattle.m5_lex.specs.Alphabet.{is_blank, is_letter, is_name_byte, opens, keywords, symbols, place_of}
+use Rattle.m5_lex.specs.Lexeme.{word_or_name, name_lexeme, number_lexeme, literal_lexeme, symbol_lexeme, lexeme_by, lexeme}
 use Rattle.m5_lex.specs.Token.{IsToken}
-use Rattle.m5_lex.specs.Shown.{escaping, spelling}
+use Rattle.m5_lex.specs.Shown.{spelling}
 
 -- what parts two tokens
 abbrev pub Parts : ℕ → Type 0
@@ -195,52 +198,7 @@ digits_lex (x ∷ ds) n b rest h e most parts =
 
 -- ---- text literals
 
-quoted_plain : (x : ℕ) (r : List ℕ) → is_plain x ≡ true → quoted (x ∷ r) ≡ joined (x ∷ []) 1 (quoted r)
-quoted_plain x [] p =
-    let a : eqb x 34 ≡ false = grind (arith, nat_tests) in
-    let b : eqb x 92 ≡ false = grind (arith, nat_tests) in
-    let q = rw (a, b) at p in
-    rw (a, b, q) refl
-quoted_plain x (y ∷ r) p =
-    let a : eqb x 34 ≡ false = grind (arith, nat_tests) in
-    let b : eqb x 92 ≡ false = grind (arith, nat_tests) in
-    let q = rw (a, b) at p in
-    rw (a, b, q) refl
-
--- a byte is read back from what it is shown as
-abbrev ReadsBack : List ℕ → ℕ → Type 0
-ReadsBack r x = quoted (escaping x ++ r) ≡ joined (x ∷ []) (length (escaping x)) (quoted r)
-
-plain_shown : (x : ℕ) (r : List ℕ) → is_text_byte x ≡ true → eqb x 34 ≡ false → eqb x 92 ≡ false → eqb x 10 ≡ false → eqb x 9 ≡ false → ReadsBack r x
-plain_shown x r h a b c d =
-    let plain : is_plain x ≡ true = grind (arith, nat_tests) in
-    rw (a, b, c, d) (quoted_plain x r plain)
-
-byte_shown : (x : ℕ) (r : List ℕ) → is_text_byte x ≡ true → ReadsBack r x
-byte_shown x r h = elim (eqb_tells x 34) [
-  | inl a ↦ subst (ReadsBack r) (sym a.1) refl
-  | inr a ↦ elim (eqb_tells x 92) [
-    | inl b ↦ subst (ReadsBack r) (sym b.1) refl
-    | inr b ↦ elim (eqb_tells x 10) [
-      | inl c ↦ subst (ReadsBack r) (sym c.1) refl
-      | inr c ↦ elim (eqb_tells x 9) [
-        | inl d ↦ subst (ReadsBack r) (sym d.1) refl
-        | inr d ↦ plain_shown x r h a.0 b.0 c.0 d.0
-      ]
-    ]
-  ]
-]
-
-quoted_shown : (text s : List ℕ) → AllPass is_text_byte text → quoted (flat_map escaping text ++ 34 ∷ s) ≡ Closed text (length (flat_map escaping text) + 1)
-quoted_shown [] [] h = refl
-quoted_shown [] (y ∷ s) h = refl
-quoted_shown (x ∷ text) s h =
-    ap quoted (append_assoc (escaping x) (flat_map escaping text) (34 ∷ s))
-    ∙ byte_shown x (flat_map escaping text ++ 34 ∷ s) (h 0 0 (omega arith))
-    ∙ ap (joined (x ∷ []) (length (escaping x))) (quoted_shown text s (λ k d l. h (suc k) d (omega arith)))
-    ∙ ap (λ (n : ℕ). Closed (x ∷ text) n) (omega (arith, length-append (escaping x) (flat_map escaping text)))
-
-literal_lexes : (text : List ℕ) (b : ℕ) (rest : List ℕ) → AllPass is_text_byte text → lexeme (spelling (Literal text) ++ b ∷ rest) ≡ lexemes.Token (Literal text) (length (spelling (Literal text)))
+literal_lexes : (text : List ℕ) (b : ℕ) (rest : List ℕ) → IsText text → lexeme (spelling (Literal text) ++ b ∷ rest) ≡ lexemes.Token (Literal text) (length (spelling (Literal text)))
 unfolding lexeme
 literal_lexes text b rest h =
     let shown : List ℕ = flat_map escaping text in

@@ -1,7 +1,8 @@
 -- The bytes, keywords and symbols of the lexical form.
-use Rattle.std.specs.Prelude.{ℕ, Bool, ◌||◌, ◌&&◌, ◌==◌, nat_le, not, List, [], ◌∷◌, Option, Some, None, codes, if◌then◌else◌}
+use Rattle.std.specs.Prelude.{ℕ, Bool, ◌||◌, ◌&&◌, ◌==◌, nat_le, List, [], ◌∷◌, Option, codes}
 use Rattle.std.specs.List.{position_from}
 use Rattle.std.specs.Str.{bytes_eq}
+use Rattle.m5_terms.specs.Decimal.{is_digit}
 
 -- tab, line feed, carriage return, space
 abbrev pub is_blank : ℕ → Bool
@@ -11,25 +12,9 @@ is_blank x = x == 9 || x == 10 || x == 13 || x == 32
 abbrev pub is_letter : ℕ → Bool
 is_letter x = (nat_le 97 x && nat_le x 122) || (nat_le 65 x && nat_le x 90)
 
--- 0-9
-abbrev pub is_digit : ℕ → Bool
-is_digit x = nat_le 48 x && nat_le x 57
-
 -- a letter, a digit, `_` or `'`
 abbrev pub is_name_byte : ℕ → Bool
 is_name_byte x = is_letter x || is_digit x || x == 95 || x == 39
-
--- a byte that stands for itself in a text literal
-abbrev pub is_plain : ℕ → Bool
-is_plain x = nat_le 32 x && nat_le x 126 && not (x == 34) && not (x == 92)
-
--- a byte of a text literal's value: tab, line feed, or 32 to 126
-abbrev pub is_text_byte : ℕ → Bool
-is_text_byte x = x == 9 || x == 10 || (nat_le 32 x && nat_le x 126)
-
--- the byte that an escape stands for, by the byte after its backslash
-abbrev pub escape : ℕ → Option ℕ
-escape x = if x == 34 then Some 34 else if x == 92 then Some 92 else if x == 110 then Some 10 else if x == 116 then Some 9 else None
 
 -- `(*`
 abbrev pub opens : ℕ → ℕ → Bool

@@ -1,16 +1,18 @@
 -- The lexeme at the head of a rest of the text, and its length.
-use Rattle.std.specs.Prelude.{ℕ, ◌≤◌, ◌+◌, ◌-◌, ◌==◌, nat_le, List, [], ◌∷◌, ◌++◌, length, Option, Some, None, if◌then◌else◌, slice_index, drop}
-use Rattle.std.specs.List.{take_while, AllPass}
+use Rattle.std.specs.Prelude.{ℕ, ◌≤◌, ◌+◌, ◌-◌, ◌==◌, nat_le, List, [], ◌∷◌, length, Option, Some, None, if◌then◌else◌, slice_index, drop}
+use Rattle.std.specs.List.{take_while}
 use Rattle.std.specs.Option.{option_map}
 use Rattle.std.specs.Str.Parse.{digits_value}
+use Rattle.m5_terms.specs.Decimal.{is_digit}
+use Rattle.m5_terms.specs.Quoted.{quoted}
+use Rattle.m5_terms.specs.declared.quoted.Quoted.{Quoted}
+use Rattle.m5_terms.specs.declared.quoted.Quoted.TheVariants.{Closed, Broken}
 use Rattle.m5_lex.specs.declared.token.Token.{Token}
 use Rattle.m5_lex.specs.declared.token.Token.TheVariants.{Name, Number, Literal, Word, Sign}
 use Rattle.m5_lex.specs.Token.{IsToken}
-use Rattle.m5_lex.specs.declared.lexeme.Quoted.{Quoted}
-use Rattle.m5_lex.specs.declared.lexeme.Quoted.TheVariants.{Closed, Broken}
 use Rattle.m5_lex.specs.declared.lexeme.Lexeme.{Lexeme}
 use Rattle.m5_lex.specs.declared.lexeme.Lexeme.TheVariants as lexemes
-use Rattle.m5_lex.specs.Alphabet.{is_blank, is_letter, is_digit, is_name_byte, is_plain, is_text_byte, escape, opens, closes, keywords, symbols, place_of}
+use Rattle.m5_lex.specs.Alphabet.{is_blank, is_letter, is_name_byte, opens, closes, keywords, symbols, place_of}
 
 -- so many bytes more
 abbrev pub longer : ℕ → Option ℕ → Option ℕ
@@ -24,30 +26,6 @@ comment_length depth (x ∷ y ∷ rest) =
     if opens x y then longer 2 (comment_length (depth + 1) rest)
     else if closes x y then (if depth == 1 then Some 2 else longer 2 (comment_length (depth - 1) rest))
     else longer 1 (comment_length depth (y ∷ rest))
-
--- the value so far and the bytes passed, in front of what is read next
-abbrev pub joined : List ℕ → ℕ → Quoted → Quoted
-joined front n (Closed value k) = Closed (front ++ value) (n + k)
-joined front n (Broken k) = Broken (n + k)
-
--- after a backslash: the byte that the escape stands for, or the fault at the backslash
-abbrev pub escaped : Option ℕ → Quoted → Quoted
-escaped None next = Broken 0
-escaped (Some x) next = joined (x ∷ []) 2 next
-
--- by a byte x of a literal and the byte y after it: what is read after both, and after x alone
-abbrev pub quoted_by : ℕ → ℕ → Quoted → Quoted → Quoted
-quoted_by x y after_both after_one =
-    if x == 34 then Closed [] 1
-    else if x == 92 then escaped (escape y) after_both
-    else if is_plain x then joined (x ∷ []) 1 after_one
-    else Broken 0
-
--- after the opening quote: the value and how many bytes to the closing quote, or how many stand before the fault
-abbrev pub quoted : List ℕ → Quoted
-quoted [] = Broken 0
-quoted (x ∷ []) = quoted_by x 0 (Broken 0) (Broken 0)
-quoted (x ∷ y ∷ rest) = quoted_by x y (quoted rest) (quoted (y ∷ rest))
 
 -- a comment that does not end is a fault at its first byte
 abbrev pub comment_lexeme : Option ℕ → Lexeme
@@ -93,11 +71,6 @@ lexeme_by x y rest =
 -- the lexeme at the head of a rest that is not empty
 unfoldable pub lexeme : List ℕ → Lexeme
 lexeme rest = lexeme_by (slice_index rest 0) (slice_index rest 1) rest
-
--- a literal's value has only bytes of texts, and it has at most so many bytes
-abbrev pub Within : Quoted → ℕ → Type 0
-Within (Closed value n) most = (n ≤ most) × AllPass is_text_byte value
-Within (Broken n) most = n ≤ most
 
 -- a lexeme takes at least one byte and at most all of them
 abbrev pub Fits : Lexeme → ℕ → Type 0

@@ -2,22 +2,18 @@
 use Rattle.std.specs.Prelude.{◌≡◌, ℕ, Bool, false, ◌==◌, ◌||◌, List, [], ◌∷◌, ◌++◌, map, IsOkAnd, if◌then◌else◌, codes}
 use Rattle.std.specs.List.{flat_map, slice_index_or}
 use Rattle.std.specs.Fmt.{decimal}
+use Rattle.m5_terms.specs.Quoted.{quotation}
 use Rattle.m5_lex.specs.declared.token.Token.{Token}
 use Rattle.m5_lex.specs.declared.token.Token.TheVariants.{Name, Number, Literal, Word, Sign}
 use Rattle.m5_lex.specs.declared.tokens.Placed.{Placed}
 use Rattle.m5_lex.specs.Alphabet.{keywords, symbols}
 use Rattle.m5_lex.specs.Lexed.{lexed}
 
--- a byte of a literal's value: a quote, a backslash, a line feed and a tab by their escapes, each other byte as itself
-abbrev pub escaping : ℕ → List ℕ
-escaping x =
-    if x == 34 then codes "\\\"" else if x == 92 then codes "\\\\" else if x == 10 then codes "\\n" else if x == 9 then codes "\\t" else x ∷ []
-
 -- the bytes of a token: a name as it is, a number in decimal, a literal between quotes, a keyword or a symbol from its list
 abbrev pub spelling : Token → List ℕ
 spelling (Name text) = text
 spelling (Number n) = decimal n
-spelling (Literal text) = codes "\"" ++ flat_map escaping text ++ codes "\""
+spelling (Literal text) = quotation text
 spelling (Word place) = slice_index_or keywords place []
 spelling (Sign place) = slice_index_or symbols place []
 

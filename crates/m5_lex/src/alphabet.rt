@@ -2,7 +2,9 @@
 
 ghost use Rattle.std.specs.Prelude.{◌≡◌, ◌<◌, ◌+◌, [], map, length, IfSome};
 ghost use Rattle.std.specs.List.{slice_index_or};
-ghost use Rattle.m5_lex.specs.Alphabet.{is_blank, is_letter, is_digit, is_name_byte, is_plain, escape, keywords, symbols, place_of};
+ghost use Rattle.m5_lex.specs.Alphabet.{is_blank, is_letter, is_name_byte, keywords, symbols, place_of};
+
+use m5_terms::decimal::is_digit;
 
 const KEYWORDS: [&[u8]; 44] = [
     b"extern", b"val", b"fun", b"main", b"fn", b"rec", b"let", b"in", b"end", b"do", b"put",
@@ -29,36 +31,10 @@ pub(crate) fn is_letter(byte: u8) -> bool
     byte >= b'a' && byte <= b'z' || byte >= b'A' && byte <= b'Z'
 }
 
-pub(crate) fn is_digit(byte: u8) -> bool
-    ensures { result ≡ is_digit byte }
-{
-    byte >= b'0' && byte <= b'9'
-}
-
 pub(crate) fn is_name_byte(byte: u8) -> bool
     ensures { result ≡ is_name_byte byte }
 {
     is_letter(byte) || is_digit(byte) || byte == b'_' || byte == b'\''
-}
-
-/// Whether the byte stands for itself in a text literal.
-pub(crate) fn is_plain(byte: u8) -> bool
-    ensures { result ≡ is_plain byte }
-{
-    byte >= b' ' && byte <= b'~' && byte != b'"' && byte != b'\\'
-}
-
-/// The byte that an escape stands for, by the byte after its backslash.
-pub(crate) fn escape(byte: u8) -> Option<u8>
-    ensures { result ≡ escape byte }
-{
-    match byte {
-        b'"' => Some(b'"'),
-        b'\\' => Some(b'\\'),
-        b'n' => Some(b'\n'),
-        b't' => Some(b'\t'),
-        _ => None,
-    }
 }
 
 /// The place of a word in a list of words, from 0.

@@ -2,29 +2,22 @@
 
 ghost use Rattle.std.specs.Prelude.{◌≡◌, ◌≤◌, ◌<◌, ◌+◌, length, IfOk, IfSome, IfErr, slice_index, drop, true, [], ◌∷◌};
 ghost use Rattle.std.specs.List.{take_while, AllPass};
-ghost use Rattle.std.specs.Option.{SomeIff};
-ghost use Rattle.std.specs.Str.Parse.{digits_value};
-ghost use Rattle.m5_lex.specs.Alphabet.{is_name_byte, is_digit, is_letter, escape, keywords, symbols, place_of};
-ghost use Rattle.m5_lex.specs.Lexeme.{comment_length, comment_lexeme, quoted, lexeme, literal_lexeme, name_lexeme, word_or_name, number_lexeme, symbol_lexeme};
-ghost use Rattle.m5_lex.specs.Lexeme.{Within, Fits};
+ghost use Rattle.m5_terms.specs.Decimal.{is_digit};
+ghost use Rattle.m5_terms.specs.Quoted.{quoted};
+ghost use Rattle.m5_lex.specs.Alphabet.{is_name_byte, is_letter, keywords, symbols, place_of};
+ghost use Rattle.m5_lex.specs.Lexeme.{comment_length, comment_lexeme, lexeme, literal_lexeme, name_lexeme, word_or_name, number_lexeme, symbol_lexeme};
+ghost use Rattle.m5_lex.specs.Lexeme.{Fits};
 ghost use Rattle.m5_lex.specs.Token.{IsToken};
 
 use crate::alphabet;
 use crate::token::Token;
-use m5_terms::text::Text;
+use m5_terms::decimal::{is_digit, value_within};
+use m5_terms::quoted::{Quoted, read_quoted};
+use m5_terms::text::{Text, byte_at};
 use std::alloc::{AllocError, Global};
 
 /// The largest number.
 const LARGEST: u64 = 9_223_372_036_854_775_807;
-
-/// What follows the opening quote of a text literal.
-#[derive(Drop)]
-pub(crate) enum Quoted {
-    /// The value, and how many bytes it takes with the closing quote.
-    Closed(Text, usize),
-    /// How many bytes stand before the first that is out of place.
-    Broken(usize),
-}
 
 /// What stands at the head of a rest of the text, with its length.
 #[derive(Drop)]
@@ -65,13 +58,6 @@ fn comment_length(rest: &[u8]) -> Option<usize>
     None
 }
 
-/// The byte at an index, or 0 past the end.
-fn byte_at(rest: &[u8], at: usize) -> u8
-    ensures { result ≡ slice_index rest.now at }
-{
-    if at < rest.len() { rest[at] } else { 0 }
-}
-
 /// The length of the name or keyword at the head.
 fn name_length(rest: &[u8]) -> usize
     ensures length { result ≡ length (take_while is_name_byte rest.now) }
@@ -85,56 +71,7 @@ fn name_length(rest: &[u8]) -> usize
 fn digits_length(rest: &[u8]) -> usize
     ensures length { result ≡ length (take_while is_digit rest.now) }
 {
-    rest.iter()
-        .take_while(|byte| alphabet::is_digit(**byte))
-        .count()
-}
-
-/// Reads a text literal after its opening quote.
-#[tactic(auto, using(crate::proofs::Scanning::quoted_closes, crate::proofs::Scanning::quoted_escapes, crate::proofs::Scanning::quoted_stops, crate::proofs::Scanning::quoted_goes, crate::proofs::Scanning::quoted_breaks, crate::proofs::Scanning::quoted_cut, crate::proofs::Lexemes::texts_push, crate::proofs::Lexemes::plain_text, crate::proofs::Lexemes::escape_text))]
-fn read_quoted(alloc: Global, rest: &[u8]) -> Result<Quoted, AllocError>
-    ensures value { IfOk result (λ q. q ≡ quoted rest.now) }
-    ensures within { IfOk result (λ q. Within q (length rest.now)) }
-{
-    let mut value = Vec::new(alloc);
-    let mut at = 0;
-    while at < rest.len() {
-        let byte = rest[at];
-        if byte == b'"' {
-            return Ok(Quoted::Closed(Text::of(alloc, &value)?, at + 1));
-        }
-        if byte == b'\\' {
-            match alphabet::escape(byte_at(rest, at + 1)) {
-                None => return Ok(Quoted::Broken(at)),
-                Some(meant) => value.push(meant)?,
-            }
-            at += 2;
-        } else {
-            if !alphabet::is_plain(byte) {
-                return Ok(Quoted::Broken(at));
-            }
-            value.push(byte)?;
-            at += 1;
-        }
-    }
-    Ok(Quoted::Broken(at))
-}
-
-/// The value of some digits, where it is at most 9223372036854775807.
-#[tactic(auto, using(crate::proofs::Numbers::value_next, crate::proofs::Numbers::value_above))]
-fn number_value(digits: &[u8]) -> Option<u64>
-    requires { AllPass is_digit digits.now }
-    ensures { SomeIff result (digits_value 10 digits.now ≤ 9223372036854775807) (digits_value 10 digits.now) }
-{
-    let mut value: u64 = 0;
-    for byte in digits {
-        let digit = (*byte - b'0') as u64;
-        if value > (LARGEST - digit) / 10 {
-            return None;
-        }
-        value = value * 10 + digit;
-    }
-    Some(value)
+    rest.iter().take_while(|byte| is_digit(**byte)).count()
 }
 
 /// A comment, after its opening.
@@ -182,7 +119,7 @@ fn number_lexeme(rest: &[u8]) -> Lexeme
     ensures fits { Fits result (length rest.now) }
 {
     let length = digits_length(rest);
-    match number_value(&rest[..length]) {
+    match value_within(&rest[..length], LARGEST) {
         Some(value) => Lexeme::Token(Token::Number(value), length),
         None => Lexeme::BadNumber,
     }
@@ -230,7 +167,7 @@ pub(crate) fn read_lexeme(alloc: Global, rest: &[u8]) -> Result<Lexeme, AllocErr
         Ok(comment_lexeme(rest))
     } else if alphabet::is_letter(first) {
         name_lexeme(alloc, rest)
-    } else if alphabet::is_digit(first) {
+    } else if is_digit(first) {
         Ok(number_lexeme(rest))
     } else if first == b'"' {
         literal_lexeme(alloc, rest)

@@ -2,47 +2,16 @@
 
 ghost use Rattle.std.specs.Prelude.{◌≡◌, ◌++◌, OnOk, IfOk};
 ghost use Rattle.std.specs.List.{All, flat_map};
-ghost use Rattle.m5_lex.specs.Shown.{escaping, spelling, begins_line, parted, shown, tokens_of, LexesBack};
+ghost use Rattle.m5_lex.specs.Shown.{spelling, begins_line, parted, shown, tokens_of, LexesBack};
 ghost use Rattle.m5_lex.specs.Token.{IsToken};
 
 use crate::alphabet;
 use crate::token::Token;
 use crate::tokens::{Placed, Tokens};
+use m5_terms::decimal::put_number;
+use m5_terms::quoted::put_quoted;
 use m5_terms::text::Text;
 use std::alloc::{AllocError, Global};
-
-/// Adds a byte of a literal's value.
-fn put_escaped(out: &mut Vec<u8>, byte: u8) -> Result<(), AllocError>
-    ensures { OnOk result (out.new.items ≡ out.old.items ++ escaping byte) }
-{
-    match byte {
-        b'"' => out.extend_from_slice(b"\\\""),
-        b'\\' => out.extend_from_slice(b"\\\\"),
-        b'\n' => out.extend_from_slice(b"\\n"),
-        b'\t' => out.extend_from_slice(b"\\t"),
-        _ => Ok(out.push(byte)?),
-    }
-}
-
-/// Adds a text literal.
-fn put_literal(out: &mut Vec<u8>, text: &Text) -> Result<(), AllocError>
-    ensures { OnOk result (out.new.items ≡ out.old.items ++ spelling (Token.Literal text.now)) }
-{
-    out.push(b'"')?;
-    for byte in text.bytes() {
-        put_escaped(out, *byte)?;
-    }
-    out.push(b'"')?;
-    Ok(())
-}
-
-/// Adds a number in decimal.
-fn put_number(alloc: Global, out: &mut Vec<u8>, number: u64) -> Result<(), AllocError>
-    ensures { OnOk result (out.new.items ≡ out.old.items ++ spelling (Token.Number number)) }
-{
-    let digits = number.to_string(alloc)?;
-    out.extend_from_slice(digits.as_bytes())
-}
 
 /// Adds a token.
 fn put_token(alloc: Global, out: &mut Vec<u8>, token: &Token) -> Result<(), AllocError>
@@ -52,7 +21,7 @@ fn put_token(alloc: Global, out: &mut Vec<u8>, token: &Token) -> Result<(), Allo
     match token {
         Token::Name(name) => out.extend_from_slice(name.bytes()),
         Token::Number(number) => put_number(alloc, out, *number),
-        Token::Literal(text) => put_literal(out, text),
+        Token::Literal(text) => put_quoted(out, text),
         Token::Word(place) => out.extend_from_slice(alphabet::keyword_at(*place)),
         Token::Sign(place) => out.extend_from_slice(alphabet::symbol_at(*place)),
     }

@@ -21,10 +21,12 @@ use Rattle.m5_scope.specs.Meaning.{Scope, entered}
 use Rattle.m5_scope.specs.declared.meaning.Meaning.{Meaning}
 use Rattle.m5_scope.specs.declared.meaning.Meaning.TheVariants as means
 use Rattle.m5_scope.specs.Forms.{unary_resolved, unary_binding, unary_count, binary_binding, binary_count, second_binding, third_binding, second_count, third_count}
-use Rattle.m5_raw.specs.InText.{leaf_type_nodes, unary_type_nodes, written_nodes, leaf_in_text, unary_in_text, in_text}
+use Rattle.m5_terms.specs.InText.{leaf_type_nodes, unary_type_nodes, leaf_in_text, unary_in_text}
+use Rattle.m5_raw.specs.InText.{written_nodes, in_text}
 use Rattle.m5_terms.specs.declared.form.LeafForm.TheVariants as leaf_form
 use Rattle.m5_scope.specs.declared.end.ScopeEnd.TheVariants.{Memory}
-use Rattle.m5_scope.specs.Resolving.{binders, Outcome, found, fault, and_then, named, leaf_resolved, resolved}
+use Rattle.m5_terms.specs.Outcome.{found, fault, and_then}
+use Rattle.m5_scope.specs.Resolving.{binders, Outcome, named, leaf_resolved, resolved}
 use Rattle.m5_raw.specs.Resolved.{Resolved}
 
 -- a type has as many nodes as the written one

@@ -8,7 +8,8 @@ use Rattle.m5_raw.specs.Resolved.{Resolved}
 use Rattle.m5_raw.specs.declared.function.Function.{Function}
 use Rattle.m5_scope.specs.Written.{type_of}
 use Rattle.m5_scope.specs.Meaning.{Scope, hides}
-use Rattle.m5_scope.specs.Resolving.{Outcome, found, fault, and_then, IsFault, binders, resolved}
+use Rattle.m5_terms.specs.Outcome.{found, fault, and_then}
+use Rattle.m5_scope.specs.Resolving.{Outcome, IsFault, binders, resolved}
 use Rattle.m5_scope.specs.Program.{once, function_resolved, functions_resolved}
 use Rattle.m5_scope.specs.declared.meaning.Meaning.{Meaning}
 use Rattle.m5_scope.specs.declared.meaning.Meaning.TheVariants.{Var, Glob}

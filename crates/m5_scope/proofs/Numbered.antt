@@ -17,7 +17,8 @@ use Rattle.m5_raw.specs.RawTerm.{RawTerm}
 use Rattle.m5_raw.specs.declared.function.Function.{Function}
 use Rattle.m5_scope.specs.Forms.{unary_resolved, unary_binding, unary_count, binary_resolved, binary_binding, binary_count, ternary_resolved, second_binding, third_binding, second_count, third_count}
 use Rattle.m5_scope.specs.Meaning.{Scope, entered, hides, nothing_known}
-use Rattle.m5_scope.specs.Resolving.{Outcome, found, fault, and_then, binders, leaf_resolved, resolved}
+use Rattle.m5_terms.specs.Outcome.{found, fault, and_then}
+use Rattle.m5_scope.specs.Resolving.{Outcome, binders, leaf_resolved, resolved}
 use Rattle.m5_scope.specs.Places.{program_places}
 use Rattle.m5_scope.specs.Program.{externs_known, function_resolved, functions_resolved, list_binders, program_resolved, unless_past}
 use Rattle.m5_scope.specs.Binders.{unary_numbers, binary_numbers, second_numbers, third_numbers, numbers, function_numbers, raw_numbers, count_from, BindersDiffer}

@@ -9,7 +9,8 @@ use Rattle.m5_tree.specs.declared.tree.Program as programs
 use Rattle.m5_scope.specs.Places.{places, extern_lists, function_lists, program_places}
 use Rattle.m5_scope.specs.Meaning.{Scope, known, nothing_known}
 use Rattle.m5_raw.specs.Resolved.{Resolved}
-use Rattle.m5_scope.specs.Resolving.{Outcome, found, fault, and_then, IsFault, binders, resolved}
+use Rattle.m5_terms.specs.Outcome.{found, fault, and_then}
+use Rattle.m5_scope.specs.Resolving.{Outcome, IsFault, binders, resolved}
 use Rattle.m5_raw.specs.RawTerm.{RawTerm, IsRaw}
 use Rattle.m5_raw.specs.declared.function.Function.{Function}
 use Rattle.m5_scope.specs.declared.end.ScopeEnd.{ScopeEnd}

@@ -7,7 +7,8 @@ use Rattle.m5_tree.specs.Tuple.{pairs}
 use Rattle.m5_tree.specs.declared.expr.Part.{Part}
 use Rattle.m5_raw.specs.Resolved.{Resolved, binary}
 use Rattle.m5_scope.specs.Meaning.{Scope}
-use Rattle.m5_scope.specs.Resolving.{Outcome, found, fault, and_then, IsFault, binders, resolved}
+use Rattle.m5_terms.specs.Outcome.{found, fault, and_then}
+use Rattle.m5_scope.specs.Resolving.{Outcome, IsFault, binders, resolved}
 use Rattle.m5_scope.specs.Tuple.{paired}
 use Rattle.m5_scope.specs.declared.tuple.Head.{Head}
 use Rattle.m5_scope.specs.declared.end.ScopeEnd.{ScopeEnd}

@@ -10,7 +10,8 @@ use Rattle.m5_tree.specs.declared.tree.Program as trees
 use Rattle.m5_raw.specs.Resolved.{Resolved, leaf, unary, binary, ternary}
 use Rattle.m5_raw.specs.RawTerm.{RawTerm}
 use Rattle.m5_raw.specs.declared.function.Function.{Function}
-use Rattle.m5_scope.specs.Resolving.{found, binders}
+use Rattle.m5_terms.specs.Outcome.{found}
+use Rattle.m5_scope.specs.Resolving.{binders}
 use Rattle.m5_scope.specs.Program.{list_binders, tree_resolved}
 
 abbrev pub unary_numbers : UnaryForm → List ℕ

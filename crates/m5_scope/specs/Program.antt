@@ -13,7 +13,8 @@ use Rattle.m5_tree.specs.declared.tree.Program as trees
 use Rattle.m5_scope.specs.Written.{type_of}
 use Rattle.m5_scope.specs.Places.{program_places}
 use Rattle.m5_scope.specs.Meaning.{Scope, hides, nothing_known}
-use Rattle.m5_scope.specs.Resolving.{Outcome, found, fault, and_then, binders, resolved}
+use Rattle.m5_terms.specs.Outcome.{found, fault, and_then}
+use Rattle.m5_scope.specs.Resolving.{Outcome, binders, resolved}
 use Rattle.m5_raw.specs.RawTerm.{RawTerm}
 use Rattle.m5_scope.specs.declared.end.ScopeEnd.TheVariants.{TooMany, Repeated, BadExtern}
 use Rattle.m5_raw.specs.declared.function.Function.{Function}

@@ -1,8 +1,10 @@
 -- The resolved term of an expression in a scope, or the first fault in it.
-use Rattle.std.specs.Prelude.{◌≡◌, ◌≢◌, ℕ, ◌+◌, nat_le, if◌then◌else◌, pos, Option, Some, None}
+use Rattle.std.specs.Prelude.{ℕ, ◌+◌, nat_le, if◌then◌else◌, pos, Option, Some, None}
 use Rattle.std.specs.List.{list_all}
 use Rattle.m5_lex.specs.declared.place.Place.{Place}
 use Rattle.m5_terms.specs.Text.{text_byte}
+use Rattle.m5_terms.specs.Outcome as outcome
+use Rattle.m5_terms.specs.Outcome.{found, fault, and_then}
 use Rattle.m5_terms.specs.declared.form.LeafForm.{LeafForm}
 use Rattle.m5_terms.specs.declared.form.LeafForm.TheVariants as leaf_form
 use Rattle.m5_tree.specs.declared.form.LeafForm as tree_leaf
@@ -16,18 +18,13 @@ use Rattle.m5_scope.specs.declared.meaning.Meaning.{Meaning}
 use Rattle.m5_scope.specs.declared.end.ScopeEnd.{ScopeEnd}
 use Rattle.m5_scope.specs.declared.end.ScopeEnd.TheVariants.{Unbound, Memory}
 
-pub data Outcome (A : Type 0) : Type 0 where
-  found : A → Outcome A
-  fault : ScopeEnd → Outcome A
-
--- a fault that comes first stands
-abbrev pub and_then : {A B : Type 0} → Outcome A → (A → Outcome B) → Outcome B
-and_then (found x) f = f x
-and_then (fault e) f = fault e
+-- a resolved part, or the first fault of names
+abbrev pub Outcome : Type 0 → Type 0
+Outcome A = outcome.Outcome A ScopeEnd
 
 -- wanting memory may end anything, and else the first fault does
 abbrev pub IsFault : {A : Type 0} → Outcome A → ScopeEnd → Type 0
-IsFault o e = e ≢ Memory → o ≡ fault e
+IsFault o e = outcome.IsFault Memory o e
 
 -- the number of binders
 abbrev pub binders : syntax.Syntax → ℕ

@@ -7,7 +7,8 @@ ghost use Rattle.m5_terms.specs.declared.types.World.{World as WorldOf};
 ghost use Rattle.m5_tree.specs.Syntax.{Syntax};
 ghost use Rattle.m5_scope.specs.Meaning.{hides, known};
 ghost use Rattle.m5_scope.specs.Written.{type_of};
-ghost use Rattle.m5_scope.specs.Resolving.{found, IsFault, binders};
+ghost use Rattle.m5_terms.specs.Outcome.{found};
+ghost use Rattle.m5_scope.specs.Resolving.{IsFault, binders};
 ghost use Rattle.m5_scope.specs.Program.{primitive_of, once, made_known, externs_known, function_resolved, main_resolved, functions_resolved, list_binders};
 ghost use Rattle.m5_scope.specs.declared.meaning.Meaning.TheVariants.{Glob};
 

@@ -4,7 +4,8 @@ ghost use Rattle.std.specs.Prelude.{◌≡◌, ◌+◌, ◌<◌, ◌^◌, IfErr,
 ghost use Rattle.m5_tree.specs.Syntax.{unary, binary, ternary};
 ghost use Rattle.m5_tree.specs.Tuple.{pairs};
 ghost use Rattle.m5_scope.specs.Meaning.{entered, known};
-ghost use Rattle.m5_scope.specs.Resolving.{found, IsFault, binders, leaf_resolved, resolved};
+ghost use Rattle.m5_terms.specs.Outcome.{found};
+ghost use Rattle.m5_scope.specs.Resolving.{IsFault, binders, leaf_resolved, resolved};
 
 use crate::end::ScopeEnd;
 use crate::forms::{

@@ -3,7 +3,8 @@
 ghost use Rattle.std.specs.Prelude.{◌≡◌, ◌≤◌, ◌++◌, length, IfErr, IfOk, OnOk};
 ghost use Rattle.m5_scope.specs.Meaning.{known, nothing_known};
 ghost use Rattle.m5_scope.specs.Places.{extern_lists, function_lists, program_places};
-ghost use Rattle.m5_scope.specs.Resolving.{found, IsFault};
+ghost use Rattle.m5_terms.specs.Outcome.{found};
+ghost use Rattle.m5_scope.specs.Resolving.{IsFault};
 ghost use Rattle.m5_scope.specs.Program.{program_resolved, tree_resolved};
 
 use crate::declare::{declare_externs, declare_functions};

@@ -1,33 +1,23 @@
 -- What one more byte or word does to a field that is being read.
-use Rattle.std.proofs.Common.{◌≡◌, ◌≢◌, ℕ, Bool, true, false, cond, IfSome, ◌+◌, ◌≤◌, ◌<◌, List, [], ◌∷◌, ◌++◌, length, take, drop, get_or, Option, Some, None, refl, ap, sym, ◌∙◌, arith, add-one}
-use Rattle.std.specs.List.{slice_split, position_or_len, find, AllByRecursion as Each}
-use Rattle.std.proofs.Math.Seq.{drop-cons}
+use Rattle.std.proofs.Common.{◌≡◌, ◌≢◌, ℕ, ◌+◌, ◌≤◌, ◌<◌, ◌&&◌, Bool, true, false, cond, IfSome, not, eqb, List, [], ◌∷◌, ◌++◌, length, take, drop, get_or, Option, Some, None, refl, ap, sym, ◌∙◌, arith}
+use Rattle.std.specs.List.{slice_split, position_or_len, find, list_all, AllPass, AllByRecursion as Each}
+use Rattle.std.proofs.Math.Bool.{and-true}
+use Rattle.std.proofs.lemmas.Bool.Decides.{nat_tests}
 use Rattle.std.proofs.lemmas.List.{drop_all, take_all, drop-drop, length-drop}
 use Rattle.std.proofs.lemmas.List.Folds.{length-prefix_len}
 use Rattle.std.proofs.lemmas.List.Elements.{All-push}
-use Rattle.std.proofs.lemmas.List.Sums.{fails_before_first}
+use Rattle.std.proofs.lemmas.List.Sums.{fails_before_first, AllPass-from_list_all}
 use Rattle.std.proofs.lemmas.List.Splits.{slice_split_first, slice_split_none}
 use Rattle.std.specs.Str.{bytes_eq}
+use Rattle.m5_terms.specs.Decimal.{is_digit}
 use Rattle.m5_terms.specs.Worlds.{site_worlds}
 use Rattle.m5_terms.proofs.SiteWorlds.{none-any}
 use Rattle.m5_terms.specs.declared.types.World.{World}
 use Rattle.m5_terms.specs.declared.types.World.TheVariants.{Any}
 use Rattle.m5_script.specs.Trace.{world_word}
 use Rattle.m5_script.specs.declared.items.SiteName.{SiteName}
-use Rattle.m5_script.specs.Fields.{◌>>=◌, is_blank, is_solid, span, before_dot, number_of, site_of, sites_from}
+use Rattle.m5_script.specs.Fields.{◌>>=◌, is_blank, is_solid, span, before_dot, is_number, number_of, site_of, sites_from}
 use Rattle.m5_script.specs.Line.{AreSites}
-
-pub one_at : (s : List ℕ) (i : ℕ) → i < length s → drop i s ≡ get_or s i 0 ∷ drop (i + 1) s
-one_at s i h = rw (add-one, drop-cons s i 0)
-
-pub two_at : (s : List ℕ) (i : ℕ) → i + 1 < length s → drop i s ≡ get_or s i 0 ∷ get_or s (i + 1) 0 ∷ drop (i + 2) s
-two_at s i h =
-    let near : i < length s = omega arith in
-    let two : i + 1 + 1 ≡ i + 2 = omega arith in
-    one_at s i near ∙ ap (λ (r : List ℕ). get_or s i 0 ∷ r) (one_at s (i + 1) h ∙ ap (λ (k : ℕ). get_or s (i + 1) 0 ∷ drop k s) two)
-
-pub last_at : (s : List ℕ) (i : ℕ) → i < length s → length s ≤ i + 1 → drop i s ≡ get_or s i 0 ∷ []
-last_at s i h k = one_at s i h ∙ ap (λ (r : List ℕ). get_or s i 0 ∷ r) (drop_all (i + 1) s k)
 
 -- ---- worlds
 
@@ -112,3 +102,36 @@ order_goes old new rest word after next n count is left some then step =
     let there : next ≡ drop (span is_solid rest + 1) rest = then ∙ ap (drop 1) left ∙ drop-drop 1 n rest ∙ ap (λ (k : ℕ). drop (k + 1) rest) count in
     ap (sites_from old) (split_more rest near ∙ ap (λ (w : List ℕ). w ∷ slice_split is_blank (drop (span is_solid rest + 1) rest)) (sym here))
     ∙ step (slice_split is_blank (drop (span is_solid rest + 1) rest)) ∙ ap (λ (r : List ℕ). sites_from new (slice_split is_blank r)) (sym there)
+
+-- ---- numbers
+
+pub number_none : (word : List ℕ) → length word ≡ 0 → is_number word ≡ false
+number_none [] none = refl
+number_none (a ∷ word) none = absurd (omega arith)
+
+-- a single digit is a number
+pub number_one : (word : List ℕ) → length word ≡ 1 → is_number word ≡ list_all is_digit word
+number_one [] one = absurd (omega arith)
+number_one (a ∷ []) one = sym (and-true (is_digit a))
+number_one (a ∷ b ∷ word) one = absurd (omega arith)
+
+-- more of them are one where the first is no 0
+pub number_zero : (word : List ℕ) → length word ≢ 0 → length word ≢ 1 → get_or word 0 0 ≡ 48 → is_number word ≡ false
+number_zero [] some more first = absurd (some refl)
+number_zero (a ∷ []) some more first = absurd (more refl)
+number_zero (a ∷ b ∷ word) some more first = rw first refl
+
+pub number_more : (word : List ℕ) → length word ≢ 0 → length word ≢ 1 → get_or word 0 0 ≢ 48 → is_number word ≡ list_all is_digit word
+number_more [] some more first = absurd (some refl)
+number_more (a ∷ []) some more first = absurd (more refl)
+number_more (a ∷ b ∷ word) some more first = let other : eqb a 48 ≡ false = grind (arith, nat_tests) in rw other refl
+
+second_true : (a b : Bool) → (a && b) ≡ true → b ≡ true
+second_true true b h = h
+second_true false b h = absurd cc
+
+pub number_digits : (word : List ℕ) → is_number word ≡ true → AllPass is_digit word
+number_digits [] h = absurd cc
+number_digits (a ∷ []) h = AllPass-from_list_all is_digit (a ∷ []) (and-true (is_digit a) ∙ h)
+number_digits (a ∷ b ∷ word) h =
+    AllPass-from_list_all is_digit (a ∷ b ∷ word) (second_true (not (eqb a 48)) (list_all is_digit (a ∷ b ∷ word)) h)

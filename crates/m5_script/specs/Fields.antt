@@ -1,7 +1,9 @@
 -- The words of a script's line, and what they stand for.
-use Rattle.std.specs.Prelude.{◌≡◌, ℕ, ◌+◌, ◌-◌, ◌*◌, Bool, not, ◌||◌, ◌&&◌, ◌==◌, nat_le, min, List, [], ◌∷◌, ◌++◌, length, take, drop, Option, Some, None, if◌then◌else◌}
-use Rattle.std.specs.List.{find, take_while}
+use Rattle.std.specs.Prelude.{◌≡◌, ℕ, ◌+◌, Bool, false, not, ◌||◌, ◌&&◌, ◌==◌, min, List, [], ◌∷◌, ◌++◌, length, take, drop, Option, Some, None, if◌then◌else◌}
+use Rattle.std.specs.List.{find, take_while, list_all}
 use Rattle.std.specs.Str.{bytes_eq}
+use Rattle.std.specs.Str.Parse.{digits_value}
+use Rattle.m5_terms.specs.Decimal.{is_digit}
 use Rattle.m5_terms.specs.declared.types.World.{World}
 use Rattle.m5_terms.specs.Worlds.{site_worlds}
 use Rattle.m5_script.specs.declared.items.SiteName.{SiteName}
@@ -42,23 +44,19 @@ word_from bytes = (take (span is_solid bytes) bytes, drop (span is_solid bytes) 
 abbrev pub word_at : List ℕ → List ℕ × List ℕ
 word_at bytes = word_from (skipped bytes)
 
-abbrev pub is_digit : ℕ → Bool
-is_digit byte = nat_le 48 byte && nat_le byte 57
+-- digits, the first of which is 0 in 0 alone
+abbrev pub is_number : List ℕ → Bool
+is_number [] = false
+is_number (first ∷ []) = is_digit first
+is_number (first ∷ second ∷ more) = not (first == 48) && list_all is_digit (first ∷ second ∷ more)
 
 -- A number past a million is read as a million, which is beyond each limit.
 abbrev pub number_cap : ℕ
 number_cap = 1000000
 
--- the number that digits go on with
-abbrev pub number_from : ℕ → List ℕ → Option ℕ
-number_from so_far [] = Some so_far
-number_from so_far (byte ∷ bytes) = if is_digit byte then number_from (min number_cap (so_far * 10 + (byte - 48))) bytes else None
-
--- decimal digits, the first of which is 0 in 0 alone
+-- the number that a word spells in decimal
 abbrev pub number_of : List ℕ → Option ℕ
-number_of [] = None
-number_of (first ∷ []) = number_from 0 (first ∷ [])
-number_of (first ∷ second ∷ bytes) = if first == 48 then None else number_from 0 (first ∷ second ∷ bytes)
+number_of word = if is_number word then Some (min number_cap (digits_value 10 word)) else None
 
 -- the world of the list that the word is for
 abbrev pub world_of : List ℕ → Option World

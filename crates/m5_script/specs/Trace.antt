@@ -1,7 +1,8 @@
 -- The trace: a line for each entry, and a last line that says how the run ended.
-use Rattle.std.specs.Prelude.{ℕ, List, [], ◌∷◌, ◌++◌, ◌==◌, if◌then◌else◌, codes}
+use Rattle.std.specs.Prelude.{ℕ, List, ◌++◌, codes}
 use Rattle.std.specs.List.{flat_map}
 use Rattle.std.specs.Fmt.{decimal}
+use Rattle.m5_terms.specs.Quoted.{quotation}
 use Rattle.m5_terms.specs.declared.types.World.{World}
 use Rattle.m5_terms.specs.declared.types.World.TheVariants.{Home, Server, Panel, Any}
 use Rattle.m5_terms.specs.declared.ask.Act.{Act}
@@ -12,15 +13,6 @@ use Rattle.m5_terms.specs.declared.ask.End.{End}
 use Rattle.m5_terms.specs.declared.ask.End.TheVariants as end
 use Rattle.m5_terms.specs.declared.ask.Entry.{Entry}
 use Rattle.m5_terms.specs.declared.ask.History.{History}
-
--- a quote, a backslash, a line feed and a tab are written as a backslash and a character; each other byte stands for itself
-abbrev pub escaped : ℕ → List ℕ
-escaped byte =
-    if byte == 34 then codes "\\\"" else (if byte == 92 then codes "\\\\" else (if byte == 10 then codes "\\n" else (if byte == 9 then codes "\\t" else byte ∷ [])))
-
--- a text between quotes
-abbrev pub quoted : List ℕ → List ℕ
-quoted text = codes "\"" ++ flat_map escaped text ++ codes "\""
 
 abbrev pub world_word : World → List ℕ
 world_word Home = codes "home"
@@ -35,20 +27,20 @@ cause_word cause.Table = codes "table"
 
 -- what an entry did
 abbrev pub words_of : Act → List ℕ
-words_of (act.Say text) = codes "say " ++ quoted text
-words_of (act.Set element text) = codes "set " ++ quoted element ++ codes " " ++ quoted text
-words_of (act.GetText element text) = codes "text " ++ quoted element ++ codes " " ++ quoted text
-words_of (act.On element) = codes "on " ++ quoted element
-words_of (act.ReadNone key) = codes "read " ++ quoted key ++ codes " none"
-words_of (act.ReadSome key text) = codes "read " ++ quoted key ++ codes " " ++ quoted text
-words_of (act.Write key text) = codes "write " ++ quoted key ++ codes " " ++ quoted text
-words_of (act.Watch key) = codes "watch " ++ quoted key
-words_of (act.Show text) = codes "show " ++ quoted text
+words_of (act.Say text) = codes "say " ++ quotation text
+words_of (act.Set element text) = codes "set " ++ quotation element ++ codes " " ++ quotation text
+words_of (act.GetText element text) = codes "text " ++ quotation element ++ codes " " ++ quotation text
+words_of (act.On element) = codes "on " ++ quotation element
+words_of (act.ReadNone key) = codes "read " ++ quotation key ++ codes " none"
+words_of (act.ReadSome key text) = codes "read " ++ quotation key ++ codes " " ++ quotation text
+words_of (act.Write key text) = codes "write " ++ quotation key ++ codes " " ++ quotation text
+words_of (act.Watch key) = codes "watch " ++ quotation key
+words_of (act.Show text) = codes "show " ++ quotation text
 words_of (act.Send other) = codes "send " ++ world_word other
 words_of (act.Take other) = codes "take " ++ world_word other
 words_of act.Refuse = codes "refuse"
-words_of (act.Fire key) = codes "fire " ++ quoted key
-words_of (act.Event element text) = codes "event " ++ quoted element ++ codes " " ++ quoted text
+words_of (act.Fire key) = codes "fire " ++ quotation key
+words_of (act.Event element text) = codes "event " ++ quotation element ++ codes " " ++ quotation text
 words_of (act.Stop reason) = codes "stop " ++ cause_word reason
 
 -- a session and one of its worlds

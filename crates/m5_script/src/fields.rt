@@ -1,22 +1,24 @@
 //! The words of a script's line, and what they stand for.
 
 ghost use Rattle.std.specs.Prelude.{◌≡◌, ◌≢◌, ◌≤◌, ℕ, List, [], ◌∷◌, length, IfSome, IfOk, IfErr, OnOk, Some};
-ghost use Rattle.std.specs.List.{find, slice_split};
+ghost use Rattle.std.specs.List.{find, list_all, slice_split};
 ghost use Rattle.std.specs.Str.{bytes_eq};
+ghost use Rattle.m5_terms.specs.Decimal.{is_digit};
 ghost use Rattle.m5_terms.specs.declared.types.World.TheVariants.{Any};
-ghost use Rattle.m5_script.specs.Fields.{is_blank, is_solid, span, skipped, word_at, before_dot, number_cap, number_from, number_of, world_of, site_of, sites_from, Refuses};
+ghost use Rattle.m5_script.specs.Fields.{is_blank, is_solid, span, skipped, word_at, before_dot, number_of, is_number, world_of, site_of, sites_from, Refuses};
 ghost use Rattle.m5_script.specs.Line.{AreSites};
 ghost use Rattle.m5_script.specs.Trace.{world_word};
 
 use crate::form::LineEnd;
 use crate::items::{SiteName, Sites};
 use crate::words::word_of_world;
+use m5_terms::decimal::{is_digit, value_within};
 use m5_terms::types::World;
 use m5_terms::worlds::worlds_of_sites;
 use std::alloc::Global;
 
 /// The value of every longer number, which is beyond each limit.
-const NUMBER_CAP: u32 = 1_000_000;
+const NUMBER_CAP: u64 = 1_000_000;
 
 pub fn is_blank_byte(byte: u8) -> bool
     ensures { result ≡ is_blank byte }
@@ -62,21 +64,41 @@ pub fn word(bytes: &[u8]) -> (&[u8], &[u8])
     from.split_at(solids(from))
 }
 
-/// The number that digits spell.
+fn are_digits(word: &[u8]) -> bool
+    ensures { result ≡ list_all is_digit word.now }
+{
+    word.iter().all(|byte| is_digit(*byte))
+}
+
+/// Whether the word is a number: digits, the first of which is 0 in 0 alone.
+#[tactic(auto, using(crate::proofs::Scanning::number_none, crate::proofs::Scanning::number_one, crate::proofs::Scanning::number_zero, crate::proofs::Scanning::number_more))]
+fn is_number(word: &[u8]) -> bool
+    ensures { result ≡ is_number word.now }
+{
+    if word.is_empty() {
+        return false;
+    }
+    if word.len() == 1 {
+        return are_digits(word);
+    }
+    if word[0] == b'0' {
+        return false;
+    }
+    are_digits(word)
+}
+
+/// The number that a word spells.
+#[tactic(auto, using(crate::proofs::Scanning::number_digits))]
 pub fn number(word: &[u8]) -> Option<u32>
     ensures { result ≡ number_of word.now }
 {
-    if word.is_empty() || word.len() > 1 && word[0] == b'0' {
+    if !is_number(word) {
         return None;
     }
-    let mut so_far: u32 = 0;
-    for byte in word {
-        if !byte.is_ascii_digit() {
-            return None;
-        }
-        so_far = NUMBER_CAP.min(so_far * 10 + (*byte - b'0') as u32);
+    match value_within(word, NUMBER_CAP) {
+        Some(value) => Some(value as u32),
+        None => Some(NUMBER_CAP as u32),
     }
-    Some(so_far)
 }
 
 /// The first of these worlds that the word is for.

@@ -9,8 +9,8 @@ ghost use Rattle.m5_script.specs.Line.{number_at, world_at, item_at, ended, keyw
 
 use crate::fields::{number, sites, skip, word, world};
 use crate::form::{Form, Keyword, LineEnd};
-use crate::quoted::{first_byte, hexadecimal, parted, quoted};
-use m5_terms::text::Text;
+use crate::quoted::{hexadecimal, parted, quoted};
+use m5_terms::text::{Text, byte_at};
 use m5_terms::types::World;
 use std::alloc::Global;
 
@@ -61,7 +61,7 @@ impl<'a> Cursor<'a> {
         ensures err { IfErr result (λ e. Refuses e (text_at self.old.rest.now)) }
     {
         let from = skip(self.rest);
-        if first_byte(from) != b'"' {
+        if byte_at(from, 0) != b'"' {
             return Err(LineEnd::Syntax);
         }
         let inside = from.split_at(1).1;

@@ -1,34 +1,15 @@
 //! Quoted texts, and bytes in hexadecimal.
 
-ghost use Rattle.std.specs.Prelude.{◌≡◌, ◌≤◌, ◌<◌, [], ◌∷◌, ◌++◌, false, length, drop, slice_index, IfSome, IfOk, IfErr, OnOk, Some};
+ghost use Rattle.std.specs.Prelude.{◌≡◌, ◌≤◌, ◌<◌, [], ◌∷◌, ◌++◌, length, drop, IfSome, IfOk, IfErr, OnOk, Some};
 ghost use Rattle.m5_terms.specs.Text.{IsText};
 ghost use Rattle.m5_script.specs.Fields.{Refuses};
-ghost use Rattle.m5_script.specs.Quoted.{escape, is_plain, is_parted, nibble, text_rest, bytes_from};
+ghost use Rattle.m5_script.specs.Quoted.{is_parted, nibble, text_inside, bytes_from};
 
 use crate::fields::is_blank_byte;
 use crate::form::LineEnd;
+use m5_terms::quoted::{Quoted, read_quoted};
 use m5_terms::text::Text;
 use std::alloc::{AllocError, Global};
-
-/// What a byte stands for after a backslash.
-fn meant_by(byte: u8) -> Option<u8>
-    ensures { result ≡ escape byte }
-{
-    match byte {
-        b'"' => Some(b'"'),
-        b'\\' => Some(b'\\'),
-        b'n' => Some(b'\n'),
-        b't' => Some(b'\t'),
-        _ => None,
-    }
-}
-
-/// Whether a byte of a quoted text stands for itself.
-fn is_plain_byte(byte: u8) -> bool
-    ensures { result ≡ is_plain byte }
-{
-    matches!(byte, b' '..=b'~') && byte != b'"' && byte != b'\\'
-}
 
 /// True at the end and where a blank follows.
 pub fn parted(bytes: &[u8]) -> bool
@@ -40,13 +21,6 @@ pub fn parted(bytes: &[u8]) -> bool
     }
 }
 
-/// The first byte, or 0 at the end.
-pub fn first_byte(bytes: &[u8]) -> u8
-    ensures { result ≡ slice_index bytes.now 0 }
-{
-    if bytes.is_empty() { 0 } else { bytes[0] }
-}
-
 fn put(bytes: &mut Vec<u8>, byte: u8) -> Result<(), AllocError>
     ensures { OnOk result (bytes.new.items ≡ bytes.old.items ++ byte ∷ []) }
 {
@@ -55,34 +29,16 @@ fn put(bytes: &mut Vec<u8>, byte: u8) -> Result<(), AllocError>
 }
 
 /// The text after an opening quote, and how many bytes it takes with the closing quote.
-#[tactic(auto, using(crate::proofs::Texts::text_escaped, crate::proofs::Texts::text_misused, crate::proofs::Texts::text_closes, crate::proofs::Texts::text_escapes, crate::proofs::Texts::text_breaks, crate::proofs::Texts::text_cut))]
 pub fn quoted(alloc: Global, bytes: &[u8]) -> Result<(Text, usize), LineEnd>
-    ensures ok { IfOk result (λ t. text_rest [] false bytes.now ≡ Some (t.0, drop t.1 bytes.now)) }
+    ensures ok { IfOk result (λ t. text_inside bytes.now ≡ Some (t.0, drop t.1 bytes.now)) }
     ensures within { IfOk result (λ t. t.1 ≤ length bytes.now) }
     ensures text { IfOk result (λ t. IsText t.0) }
-    ensures err { IfErr result (λ e. Refuses e (text_rest [] false bytes.now)) }
+    ensures err { IfErr result (λ e. Refuses e (text_inside bytes.now)) }
 {
-    let mut text = Vec::new(alloc);
-    let mut escaped = false;
-    for at in 0..bytes.len() {
-        let byte = bytes[at];
-        if escaped {
-            match meant_by(byte) {
-                Some(meant) => put(&mut text, meant)?,
-                None => return Err(LineEnd::Syntax),
-            }
-            escaped = false;
-        } else if byte == b'"' {
-            return Ok((Text::of(alloc, &text)?, at + 1));
-        } else if byte == b'\\' {
-            escaped = true;
-        } else if is_plain_byte(byte) {
-            put(&mut text, byte)?;
-        } else {
-            return Err(LineEnd::Syntax);
-        }
+    match read_quoted(alloc, bytes)? {
+        Quoted::Closed(text, length) => Ok((text, length)),
+        Quoted::Broken(_) => Err(LineEnd::Syntax),
     }
-    Err(LineEnd::Syntax)
 }
 
 /// The value of a hexadecimal digit.

@@ -1,17 +1,20 @@
 //! The trace of a run as text.
 
 ghost use Rattle.std.specs.Prelude.{◌≡◌, ◌++◌, IfOk, OnOk, codes};
-ghost use Rattle.m5_script.specs.Trace.{cause_word, last_words, line_of, quoted, trace_of, words_of, world_word};
+ghost use Rattle.m5_terms.specs.Quoted.{quotation};
+ghost use Rattle.m5_script.specs.Trace.{cause_word, last_words, line_of, trace_of, words_of, world_word};
 
-use crate::words::{put_number, put_quoted, put_site, put_world};
+use crate::words::{put_site, put_world};
 use m5_terms::ask::{Act, Cause, End, Entry, History};
+use m5_terms::decimal::put_number;
+use m5_terms::quoted::put_quoted;
 use m5_terms::text::Text;
 use m5_terms::types::World;
 use std::alloc::{AllocError, Global};
 
 /// Adds a word and a text.
 fn put_one(out: &mut Vec<u8>, word: &[u8], text: &Text) -> Result<(), AllocError>
-    ensures { OnOk result (out.new.items ≡ out.old.items ++ (word.now ++ quoted text.now)) }
+    ensures { OnOk result (out.new.items ≡ out.old.items ++ (word.now ++ quotation text.now)) }
 {
     out.extend_from_slice(word)?;
     put_quoted(out, text)
@@ -19,7 +22,7 @@ fn put_one(out: &mut Vec<u8>, word: &[u8], text: &Text) -> Result<(), AllocError
 
 /// Adds a word and two texts.
 fn put_two(out: &mut Vec<u8>, word: &[u8], first: &Text, second: &Text) -> Result<(), AllocError>
-    ensures { OnOk result (out.new.items ≡ out.old.items ++ (word.now ++ quoted first.now ++ codes " " ++ quoted second.now)) }
+    ensures { OnOk result (out.new.items ≡ out.old.items ++ (word.now ++ quotation first.now ++ codes " " ++ quotation second.now)) }
 {
     put_one(out, word, first)?;
     out.push(b' ')?;
@@ -45,7 +48,7 @@ fn put_cause(out: &mut Vec<u8>, cause: Cause) -> Result<(), AllocError>
 }
 
 fn put_missing(out: &mut Vec<u8>, key: &Text) -> Result<(), AllocError>
-    ensures { OnOk result (out.new.items ≡ out.old.items ++ (codes "read " ++ quoted key.now ++ codes " none")) }
+    ensures { OnOk result (out.new.items ≡ out.old.items ++ (codes "read " ++ quotation key.now ++ codes " none")) }
 {
     put_one(out, b"read ", key)?;
     out.extend_from_slice(b" none")
@@ -81,30 +84,30 @@ fn put_act(out: &mut Vec<u8>, act: &Act) -> Result<(), AllocError>
     }
 }
 
-fn put_line(out: &mut Vec<u8>, entry: &Entry) -> Result<(), AllocError>
+fn put_line(alloc: Global, out: &mut Vec<u8>, entry: &Entry) -> Result<(), AllocError>
     ensures { OnOk result (out.new.items ≡ out.old.items ++ line_of entry.now) }
 {
-    put_site(out, entry.session, entry.world)?;
+    put_site(alloc, out, entry.session, entry.world)?;
     out.push(b' ')?;
     put_act(out, &entry.act)?;
     out.push(b'\n')?;
     Ok(())
 }
 
-fn put_last(out: &mut Vec<u8>, end: &End) -> Result<(), AllocError>
+fn put_last(alloc: Global, out: &mut Vec<u8>, end: &End) -> Result<(), AllocError>
     ensures { OnOk result (out.new.items ≡ out.old.items ++ last_words end.now) }
 {
     match end {
         End::Rest => out.extend_from_slice(b"rest"),
         End::Stopped(count) => {
             out.extend_from_slice(b"stopped ")?;
-            put_number(out, *count)
+            put_number(alloc, out, u64::from(*count))
         }
         End::Wrong(session, world, label) => {
             out.extend_from_slice(b"wrong ")?;
-            put_site(out, *session, *world)?;
+            put_site(alloc, out, *session, *world)?;
             out.push(b' ')?;
-            put_number(out, *label as u32)
+            put_number(alloc, out, *label as u64)
         }
     }
 }
@@ -115,9 +118,9 @@ pub fn trace_text(alloc: Global, history: &History) -> Result<Text, AllocError>
 {
     let mut out = Vec::new(alloc);
     for entry in history.entries.as_slice() {
-        put_line(&mut out, entry)?;
+        put_line(alloc, &mut out, entry)?;
     }
-    put_last(&mut out, &history.end)?;
+    put_last(alloc, &mut out, &history.end)?;
     out.push(b'\n')?;
     Text::of(alloc, out.as_slice())
 }

@@ -3,8 +3,9 @@
 ghost use Rattle.std.specs.Prelude.{◌≡◌, ◌^◌, ◌-◌, min};
 ghost use Rattle.m5_meaning.specs.Site.{thread_size};
 
-use crate::size::{size_of_focus, size_of_frames};
+use crate::size::size_of_frames;
 use m5_terms::queue::Queue;
+use m5_terms::size::size_of_focus;
 use m5_terms::thread::{Focus, Frame};
 use std::marker::Model;
 

@@ -18,6 +18,7 @@ pub mod Matching
 pub mod Playing
 pub mod Related
 pub mod Answers
+pub mod Laws
 pub mod CountsDown
 pub mod InText
 pub mod Outcome

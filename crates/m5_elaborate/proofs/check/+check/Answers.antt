@@ -1,7 +1,8 @@
 use Rattle.std.proofs.Common.{◌≡◌, ◌∙◌, rules, arith, ap, sym, subst}
 use Rattle.m5_terms.specs.declared.form.BinaryForm.TheVariants.{Pair}
 use Rattle.m5_raw.specs.Resolved.{binary, place_of}
-use Rattle.m5_elaborate.specs.Outcome.{found, IsFault}
+use Rattle.m5_terms.specs.Outcome.{found}
+use Rattle.m5_elaborate.specs.Outcome.{IsFault}
 use Rattle.m5_elaborate.specs.Names.{context, entries}
 use Rattle.m5_elaborate.specs.Checked.{checked, signatures}
 use Rattle.m5_elaborate.proofs.PairSteps.{nests_next, nests_part_fault, nests_fault}

@@ -1,5 +1,5 @@
 use Rattle.std.proofs.Common.{◌≡◌, vec_len}
-use Rattle.m5_elaborate.specs.Outcome.{found}
+use Rattle.m5_terms.specs.Outcome.{found}
 use Rattle.m5_elaborate.specs.Pairs.{nested}
 use Rattle.m5_elaborate.proofs.pairs.pair_up.Given as goal
 

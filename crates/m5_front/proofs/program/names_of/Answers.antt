@@ -1,6 +1,6 @@
 use Rattle.std.proofs.Common.{◌≡◌, sym, subst}
 use Rattle.m5_tree.specs.declared.tree.Tree.{Tree}
-use Rattle.m5_scope.specs.Resolving.{found}
+use Rattle.m5_terms.specs.Outcome.{found}
 use Rattle.m5_scope.specs.Program.{tree_resolved}
 use Rattle.m5_front.proofs.Accepting.{one_answer, resolved_accepts}
 use Rattle.m5_front.proofs.program.names_of.Goals as goal

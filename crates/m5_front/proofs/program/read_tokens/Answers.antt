@@ -1,6 +1,6 @@
 use Rattle.std.proofs.Common.{◌≡◌, sym, subst}
 use Rattle.m5_raw.specs.RawTerm.{RawTerm}
-use Rattle.m5_elaborate.specs.Outcome.{found}
+use Rattle.m5_terms.specs.Outcome.{found}
 use Rattle.m5_elaborate.specs.Checked.{elaborated}
 use Rattle.m5_front.proofs.Accepting.{typed_accepts}
 use Rattle.m5_front.proofs.program.read_tokens.Goals as goal
