@@ -16,7 +16,7 @@ use Rattle.m5_terms.specs.declared.ask.AskOf.TheVariants as ask
 use Rattle.m5_terms.specs.declared.ask.AnswerOf.{AnswerOf}
 use Rattle.m5_meaning.specs.Parts.{parts, fill}
 use Rattle.m5_meaning.specs.Site.{Program, Thread, Site, Item}
-use Rattle.m5_meaning.specs.Reduction.{Reduced, gives, makes_text, goes_on, makes_cell, loads, stores, leaves, says, sets, writes, gets, reads, handles, watches, reduced}
+use Rattle.m5_meaning.specs.Reduction.{Reduced, gives, makes_text, goes_on, makes_cell, loads, stores, leaves, says, shows, sets, writes, gets, reads, handles, watches, reduced}
 use Rattle.m5_meaning.specs.Reduction as reduction
 use Rattle.m5_meaning.specs.Step.{SiteNext, is_full, stops_full, atom, loaded, stored, outcome, part_begun, evaluated, returned, focused, after_take, front, site_next}
 use Rattle.m5_script.specs.Scenario.{Scenario}
@@ -55,6 +55,7 @@ outcome-active P u s ts fs w (goes_on e) = tt
 outcome-active P u s ts fs w (stores n v) = stored-active P s ts fs w n v (slice_get s.cells n)
 outcome-active P u s ts fs w (leaves v e) = tt
 outcome-active P u s ts fs w (says t) = tt
+outcome-active P u s ts fs w (shows t) = tt
 outcome-active P u s ts fs w (sets e t) = tt
 outcome-active P u s ts fs w (writes e t) = tt
 outcome-active P u s ts fs w (gets e) = tt
