@@ -11,7 +11,7 @@ use Rattle.m5_terms.specs.declared.types.World.TheVariants.{Home, Server, Any}
 use Rattle.m5_terms.specs.declared.ask.AskOf.{AskOf}
 use Rattle.m5_terms.specs.declared.ask.AskOf.TheVariants as ask
 use Rattle.m5_meaning.specs.Site.{Item}
-use Rattle.m5_network.specs.Board.{Watch, Trigger, Event, Handler, Desk, Board, text_at, at_session, link, posted, handlers_of, Answered, text_or_missing, text_or_empty, take_event, take_trigger, take_other, take_from, take_at, answer_of}
+use Rattle.m5_network.specs.Board.{Watch, Trigger, Event, Handler, Desk, Board, text_at, at_session, at_world, link, posted, handlers_of, Answered, text_or_missing, text_or_empty, take_event, take_trigger, take_other, take_from, take_at, answer_of}
 use Rattle.m5_terms.specs.Answers.{NamesHandlers}
 use Rattle.m5_terms.proofs.Lists.{each-map, each-append}
 use Rattle.m5_sound.proofs.Boards.{at-each}

@@ -6,6 +6,7 @@ pub mod binders;
 pub mod build;
 pub mod copy;
 pub mod form;
+pub mod item;
 pub mod listed;
 pub mod matching;
 pub mod node;
