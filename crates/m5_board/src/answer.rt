@@ -348,7 +348,7 @@ impl<I: Item> Board<I> {
         match at {
             World::Home => self.take_event(alloc, session),
             World::Server => self.take_trigger(alloc, session),
-            World::Any => Ok(nothing()),
+            World::Panel | World::Any => Ok(nothing()),
         }
     }
 
@@ -373,6 +373,7 @@ impl<I: Item> Board<I> {
             AskOf::Read(key) => self.read(alloc, session, key),
             AskOf::Write(key, text) => self.write(alloc, session, key, text),
             AskOf::Watch(key, number) => self.watch(alloc, session, key, number),
+            AskOf::Show(text) => Ok(done(Act::Show(text))),
             AskOf::Send(to, item) => self.send(session, at, to, item),
             AskOf::Take => self.take(alloc, session, at),
             AskOf::Stop(cause) => Ok(done(Act::Stop(cause))),
