@@ -1,4 +1,3 @@
-pub mod Tables
 pub mod Counting
 pub mod Whole
 pub mod Measures

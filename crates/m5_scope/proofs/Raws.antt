@@ -1,7 +1,6 @@
 -- What a program's parts make of the whole.
-use Rattle.std.proofs.Common.{◌≡◌, ℕ, zero, suc, ◌+◌, ◌≤◌, List, [], ◌++◌, None, length, refl, subst, ap, sym, ◌∙◌, arith}
+use Rattle.std.proofs.Common.{◌≡◌, ℕ, zero, suc, ◌+◌, ◌≤◌, List, [], ◌++◌, Option, None, length, refl, subst, ap, sym, ◌∙◌, arith}
 use Rattle.std.proofs.lemmas.List.{length-append}
-use Rattle.std.proofs.Math.ListN.{replicate}
 use Rattle.m5_lex.specs.declared.place.Place.{Place}
 use Rattle.m5_tree.specs.Syntax.{Syntax}
 use Rattle.m5_tree.specs.declared.tree.Function as trees
@@ -14,19 +13,17 @@ use Rattle.m5_scope.specs.Resolving.{Outcome, IsFault, binders, resolved}
 use Rattle.m5_raw.specs.RawTerm.{RawTerm, IsRaw}
 use Rattle.m5_raw.specs.declared.function.Function.{Function}
 use Rattle.m5_scope.specs.declared.end.ScopeEnd.{ScopeEnd}
+use Rattle.m5_scope.specs.declared.meaning.Meaning.{Meaning}
 use Rattle.m5_scope.specs.Program.{externs_known, list_binders, main_resolved, functions_resolved, program_resolved}
 use Rattle.m5_scope.proofs.Counting.{Holds}
 use Rattle.m5_scope.proofs.Whole.{IsWhole, functions_whole, binders_few, list_binders_few}
 
-nothing_at : (n y : ℕ) → known (replicate n None) y ≡ None
-nothing_at zero zero = refl
-nothing_at zero (suc y) = refl
-nothing_at (suc n) zero = refl
-nothing_at (suc n) (suc y) = nothing_at n y
+nothing_at : (y : ℕ) → known [] y ≡ None
+nothing_at zero = refl
+nothing_at (suc y) = refl
 
--- a table without entries knows nothing
-pub nothing_in : (n : ℕ) → known (replicate n None) ≡ nothing_known
-nothing_in n = λ i y. nothing_at n y i
+pub nothing_in : (t : List (Option Meaning)) → t ≡ [] → known t ≡ nothing_known
+nothing_in t e = ap known e ∙ (λ i y. nothing_at y i)
 
 -- the whole keeps to the limits
 pub raw_of : (gs : List Function) (s t : Scope) (n m : ℕ) (fs : List trees.Function) (at : Place) (e : Syntax) (x : Resolved)

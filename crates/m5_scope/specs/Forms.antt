@@ -13,9 +13,10 @@ use Rattle.m5_terms.specs.declared.form.BinaryForm.TheVariants as binary_form
 use Rattle.m5_terms.specs.declared.form.TernaryForm.{TernaryForm}
 use Rattle.m5_terms.specs.declared.form.TernaryForm.TheVariants as ternary_form
 use Rattle.m5_scope.specs.Written.{type_of}
+use Rattle.m5_terms.specs.declared.table.Binding.{Binding}
+use Rattle.m5_terms.specs.declared.table.Binding.TheVariants as binds
+use Rattle.m5_scope.specs.declared.meaning.Meaning.{Meaning}
 use Rattle.m5_scope.specs.declared.meaning.Meaning.TheVariants as means
-use Rattle.m5_scope.specs.declared.meaning.Binding.{Binding}
-use Rattle.m5_scope.specs.declared.meaning.Binding.TheVariants as binds
 
 abbrev pub unary_resolved : ℕ → tree_unary.UnaryForm → UnaryForm
 unary_resolved n (unary_tree.Fn x t) = unary_form.Fn n (type_of t)
@@ -32,10 +33,11 @@ unary_resolved n (unary_tree.Inl t) = unary_form.Inl (type_of t)
 unary_resolved n (unary_tree.Inr t) = unary_form.Inr (type_of t)
 unary_resolved n unary_tree.Spawn = unary_form.Spawn
 
-abbrev pub unary_binding : ℕ → tree_unary.UnaryForm → Binding
+-- of two equal names of a form the later one counts, so that it is the innermost
+abbrev pub unary_binding : ℕ → tree_unary.UnaryForm → Binding Meaning
 unary_binding n (unary_tree.Fn x t) = binds.One x (means.Var n)
-unary_binding n (unary_tree.Rec f x t u) = binds.Two f (means.Var n) x (means.Var (n + 1))
-unary_binding n _ = binds.None
+unary_binding n (unary_tree.Rec f x t u) = binds.Two x (means.Var (n + 1)) f (means.Var n)
+unary_binding n _ = binds.Nothing
 
 abbrev pub unary_count : tree_unary.UnaryForm → ℕ
 unary_count (unary_tree.Fn x t) = 1
@@ -56,12 +58,12 @@ binary_resolved n (binary_tree.Leta x) = binary_form.Leta n
 binary_resolved n (binary_tree.Lets x) = binary_form.Lets n
 
 -- what a declaration of a `let` binds in the rest of it, and not in its own first part
-abbrev pub binary_binding : ℕ → tree_binary.BinaryForm → Binding
+abbrev pub binary_binding : ℕ → tree_binary.BinaryForm → Binding Meaning
 binary_binding n (binary_tree.Val x) = binds.One x (means.Var n)
 binary_binding n (binary_tree.Put x) = binds.One x (means.Valid n)
 binary_binding n (binary_tree.Leta x) = binds.One x (means.Var n)
 binary_binding n (binary_tree.Lets x) = binds.One x (means.Valid n)
-binary_binding n _ = binds.None
+binary_binding n _ = binds.Nothing
 
 abbrev pub binary_count : tree_binary.BinaryForm → ℕ
 binary_count (binary_tree.Val x) = 1
@@ -76,14 +78,14 @@ ternary_resolved m k ternary_tree.If = ternary_form.If
 ternary_resolved m k (ternary_tree.CaseSum x y) = ternary_form.CaseSum m k
 ternary_resolved m k (ternary_tree.CaseList x y) = ternary_form.CaseList k (k + 1)
 
-abbrev pub second_binding : ℕ → tree_ternary.TernaryForm → Binding
+abbrev pub second_binding : ℕ → tree_ternary.TernaryForm → Binding Meaning
 second_binding m (ternary_tree.CaseSum x y) = binds.One x (means.Var m)
-second_binding m _ = binds.None
+second_binding m _ = binds.Nothing
 
-abbrev pub third_binding : ℕ → tree_ternary.TernaryForm → Binding
-third_binding k ternary_tree.If = binds.None
+abbrev pub third_binding : ℕ → tree_ternary.TernaryForm → Binding Meaning
+third_binding k ternary_tree.If = binds.Nothing
 third_binding k (ternary_tree.CaseSum x y) = binds.One y (means.Var k)
-third_binding k (ternary_tree.CaseList x y) = binds.Two x (means.Var k) y (means.Var (k + 1))
+third_binding k (ternary_tree.CaseList x y) = binds.Two y (means.Var (k + 1)) x (means.Var k)
 
 abbrev pub second_count : tree_ternary.TernaryForm → ℕ
 second_count (ternary_tree.CaseSum x y) = 1

@@ -14,11 +14,12 @@ ghost use Rattle.m5_scope.specs.declared.meaning.Meaning.TheVariants.{Glob};
 
 use crate::end::ScopeEnd;
 use crate::expression::within;
-use crate::meaning::{Binding, Meaning, meaning_of, replace};
+use crate::meaning::{Meaning, meaning_of};
 use crate::written::written;
 use m5_raw::function::Function;
 use m5_terms::listed::Listed;
 use m5_terms::primitives::extern_of;
+use m5_terms::table::{Binding, Table};
 use m5_terms::types::{Prim, World, is_same, is_same_world};
 use m5_tree::names::Names;
 use m5_tree::tree::{Extern as ExternTree, Function as FunctionTree};
@@ -53,7 +54,7 @@ fn primitive(
 fn declare_extern(
     alloc: Global,
     names: &Names,
-    table: &mut [Option<Meaning>],
+    table: &mut Table<Meaning>,
     item: &ExternTree,
 ) -> Result<(), ScopeEnd>
     ensures value { OnOk result (once item.now.place (known table.old item.now.name) (made_known (known table.old) item.now (primitive_of (slice_get names.now item.now.name) (type_of item.now.ty) item.now.world)) ≡ found (known table.new)) }
@@ -65,7 +66,7 @@ fn declare_extern(
     match primitive(alloc, names.get(item.name), &item.ty, item.world)? {
         None => Err(ScopeEnd::BadExtern(item.place)),
         Some(prim) => {
-            replace(table, item.name, Some(Meaning::Extern(prim)))?;
+            table.replace(item.name, Some(Meaning::Extern(prim)))?;
             Ok(())
         }
     }
@@ -75,7 +76,7 @@ fn declare_extern(
 pub(crate) fn declare_externs(
     alloc: Global,
     names: &Names,
-    table: &mut [Option<Meaning>],
+    table: &mut Table<Meaning>,
     items: &[ExternTree],
 ) -> Result<(), ScopeEnd>
     ensures value { OnOk result (externs_known names.now (known table.old) items.now ≡ found (known table.new)) }
@@ -90,10 +91,10 @@ pub(crate) fn declare_externs(
 }
 
 /// Makes a function of this number known, and resolves its body.
-#[tactic(auto, using(crate::proofs::Tables::known_set, crate::proofs::Declaring::function_found, crate::proofs::Declaring::function_fault, crate::proofs::Declaring::function_repeated))]
+#[tactic(auto, using(crate::proofs::Declaring::function_found, crate::proofs::Declaring::function_fault, crate::proofs::Declaring::function_repeated))]
 fn declare_function(
     alloc: Global,
-    table: &mut [Option<Meaning>],
+    table: &mut Table<Meaning>,
     next: &mut u32,
     number: u32,
     item: &FunctionTree,
@@ -107,7 +108,7 @@ fn declare_function(
     if meaning_of(table, item.name).is_some() {
         return Err(ScopeEnd::Repeated(item.name_place));
     }
-    replace(table, item.name, Some(Meaning::Glob(number)))?;
+    table.replace(item.name, Some(Meaning::Glob(number)))?;
     let parameter = *next;
     *next += 1;
     let binding = Binding::One(item.parameter, Meaning::Var(parameter));
@@ -128,7 +129,7 @@ fn declare_function(
 #[tactic(auto, using(crate::proofs::Declaring::functions_next, crate::proofs::Declaring::functions_fault))]
 pub(crate) fn declare_functions(
     alloc: Global,
-    table: &mut [Option<Meaning>],
+    table: &mut Table<Meaning>,
     next: &mut u32,
     items: &[FunctionTree],
 ) -> Result<Listed<Function>, ScopeEnd>

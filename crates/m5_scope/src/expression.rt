@@ -11,12 +11,13 @@ use crate::end::ScopeEnd;
 use crate::forms::{
     binary_form, in_binary, in_second, in_third, in_unary, ternary_form, unary_form,
 };
-use crate::meaning::{Binding, Meaning, enter, leave, meaning_of, use_form};
+use crate::meaning::{Meaning, meaning_of, use_form};
 use crate::tuple::{add_head, pairs_of};
 use crate::written::written;
 use m5_lex::Place;
 use m5_raw::node::{Node, NodeBox};
 use m5_terms::form::LeafForm;
+use m5_terms::table::{Binding, Table};
 use m5_terms::text::is_text;
 use m5_tree::expr::{Expr, Part, Shape};
 use m5_tree::form::{
@@ -30,7 +31,7 @@ const LARGEST: u64 = 9_223_372_036_854_775_807;
 /// A form without parts. No text has a number above the largest or another byte in a literal.
 fn leaf_form(
     alloc: Global,
-    table: &[Option<Meaning>],
+    table: &Table<Meaning>,
     place: Place,
     form: &LeafTree,
 ) -> Result<LeafForm, ScopeEnd>
@@ -66,27 +67,27 @@ fn leaf_form(
 #[cycle(expression)]
 pub(crate) fn within(
     alloc: Global,
-    table: &mut [Option<Meaning>],
+    table: &mut Table<Meaning>,
     next: &mut u32,
-    binding: Binding,
+    binding: Binding<Meaning>,
     expr: &Expr,
 ) -> Result<NodeBox, ScopeEnd>
     requires { next.old + binders expr.now < 2 ^ 32 }
     ensures value { IfOk result (λ x. resolved (entered (known table.old) binding) next.old expr.now ≡ found x) }
     ensures next { OnOk result (next.new ≡ next.old + binders expr.now) }
-    ensures table { OnOk result (table.new ≡ table.old) }
+    ensures table { OnOk result (known table.new ≡ known table.old) }
     ensures fault { IfErr result (IsFault (resolved (entered (known table.old) binding) next.old expr.now)) }
 {
-    let (first, second) = enter(table, binding)?;
+    let hidden = table.enter(binding)?;
     let node = expression(alloc, table, next, expr)?;
-    leave(table, binding, first, second)?;
+    table.leave(hidden)?;
     Ok(NodeBox::new(alloc, node)?)
 }
 
 #[cycle(expression)]
 fn of_unary(
     alloc: Global,
-    table: &mut [Option<Meaning>],
+    table: &mut Table<Meaning>,
     next: &mut u32,
     place: Place,
     form: &UnaryTree,
@@ -95,7 +96,7 @@ fn of_unary(
     requires { next.old + binders (unary place form.now first.now) < 2 ^ 32 }
     ensures value { IfOk result (λ x. resolved (known table.old) next.old (unary place form.now first.now) ≡ found x) }
     ensures next { OnOk result (next.new ≡ next.old + binders (unary place form.now first.now)) }
-    ensures table { OnOk result (table.new ≡ table.old) }
+    ensures table { OnOk result (known table.new ≡ known table.old) }
     ensures fault { IfErr result (IsFault (resolved (known table.old) next.old (unary place form.now first.now))) }
 {
     let (binding, count) = in_unary(*next, form);
@@ -108,7 +109,7 @@ fn of_unary(
 #[cycle(expression)]
 fn of_binary(
     alloc: Global,
-    table: &mut [Option<Meaning>],
+    table: &mut Table<Meaning>,
     next: &mut u32,
     place: Place,
     form: BinaryTree,
@@ -118,13 +119,13 @@ fn of_binary(
     requires { next.old + binders (binary place form first.now second.now) < 2 ^ 32 }
     ensures value { IfOk result (λ x. resolved (known table.old) next.old (binary place form first.now second.now) ≡ found x) }
     ensures next { OnOk result (next.new ≡ next.old + binders (binary place form first.now second.now)) }
-    ensures table { OnOk result (table.new ≡ table.old) }
+    ensures table { OnOk result (known table.new ≡ known table.old) }
     ensures fault { IfErr result (IsFault (resolved (known table.old) next.old (binary place form first.now second.now))) }
 {
     let (binding, count) = in_binary(*next, form);
     let resolved = binary_form(*next, form);
     *next += count;
-    let first = within(alloc, table, next, Binding::None, first)?;
+    let first = within(alloc, table, next, Binding::Nothing, first)?;
     let second = within(alloc, table, next, binding, second)?;
     Ok(Node::binary(place, resolved, first, second))
 }
@@ -132,7 +133,7 @@ fn of_binary(
 #[cycle(expression)]
 fn of_ternary(
     alloc: Global,
-    table: &mut [Option<Meaning>],
+    table: &mut Table<Meaning>,
     next: &mut u32,
     place: Place,
     form: TernaryTree,
@@ -143,10 +144,10 @@ fn of_ternary(
     requires { next.old + binders (ternary place form first.now second.now third.now) < 2 ^ 32 }
     ensures value { IfOk result (λ x. resolved (known table.old) next.old (ternary place form first.now second.now third.now) ≡ found x) }
     ensures next { OnOk result (next.new ≡ next.old + binders (ternary place form first.now second.now third.now)) }
-    ensures table { OnOk result (table.new ≡ table.old) }
+    ensures table { OnOk result (known table.new ≡ known table.old) }
     ensures fault { IfErr result (IsFault (resolved (known table.old) next.old (ternary place form first.now second.now third.now))) }
 {
-    let first = within(alloc, table, next, Binding::None, first)?;
+    let first = within(alloc, table, next, Binding::Nothing, first)?;
     let before_second = *next;
     let (binding, count) = in_second(before_second, form);
     *next += count;
@@ -164,7 +165,7 @@ fn of_ternary(
 #[tactic(auto, using(crate::proofs::Spine::partway_start, crate::proofs::Spine::partway_few, crate::proofs::Spine::partway_weighs, crate::proofs::Spine::partway_end, crate::proofs::Spine::partway_fault))]
 fn of_pairs(
     alloc: Global,
-    table: &mut [Option<Meaning>],
+    table: &mut Table<Meaning>,
     next: &mut u32,
     place: Place,
     first: &Expr,
@@ -173,7 +174,7 @@ fn of_pairs(
     requires { next.old + binders (pairs place first.now parts.now) < 2 ^ 32 }
     ensures value { IfOk result (λ x. resolved (known table.old) next.old (pairs place first.now parts.now) ≡ found x) }
     ensures next { OnOk result (next.new ≡ next.old + binders (pairs place first.now parts.now)) }
-    ensures table { OnOk result (table.new ≡ table.old) }
+    ensures table { OnOk result (known table.new ≡ known table.old) }
     ensures fault { IfErr result (IsFault (resolved (known table.old) next.old (pairs place first.now parts.now))) }
 {
     let mut heads = Vec::new(alloc);
@@ -181,13 +182,13 @@ fn of_pairs(
     let mut expr = first;
     let mut rest = parts;
     while let Some((part, more)) = rest.split_first() {
-        let node = within(alloc, table, next, Binding::None, expr)?;
+        let node = within(alloc, table, next, Binding::Nothing, expr)?;
         add_head(&mut heads, at, node)?;
         at = part.place;
         expr = &part.expr;
         rest = more;
     }
-    let last = within(alloc, table, next, Binding::None, expr)?;
+    let last = within(alloc, table, next, Binding::Nothing, expr)?;
     Ok(pairs_of(alloc, heads, last)?)
 }
 
@@ -196,14 +197,14 @@ fn of_pairs(
 #[tactic(auto, using(crate::proofs::Measures::later_weighs, crate::proofs::Measures::part_weighs, crate::proofs::Measures::tuple_weighs))]
 pub(crate) fn expression(
     alloc: Global,
-    table: &mut [Option<Meaning>],
+    table: &mut Table<Meaning>,
     next: &mut u32,
     expr: &Expr,
 ) -> Result<Node, ScopeEnd>
     requires { next.old + binders expr.now < 2 ^ 32 }
     ensures value { IfOk result (λ x. resolved (known table.old) next.old expr.now ≡ found x) }
     ensures next { OnOk result (next.new ≡ next.old + binders expr.now) }
-    ensures table { OnOk result (table.new ≡ table.old) }
+    ensures table { OnOk result (known table.new ≡ known table.old) }
     ensures fault { IfErr result (IsFault (resolved (known table.old) next.old expr.now)) }
 {
     match &expr.shape {

@@ -3,9 +3,10 @@
 ghost use Rattle.std.specs.Prelude.{◌≡◌, ◌+◌, ◌<◌, ◌≤◌, ◌^◌, IfOk};
 ghost use Rattle.m5_scope.specs.Forms.{unary_resolved, unary_binding, unary_count, binary_resolved, binary_binding, binary_count, ternary_resolved, second_binding, third_binding, second_count, third_count};
 
-use crate::meaning::{Binding, Meaning};
+use crate::meaning::Meaning;
 use crate::written::written;
 use m5_terms::form::{BinaryForm, TernaryForm, UnaryForm};
+use m5_terms::table::Binding;
 use m5_tree::form::{BinaryForm as BinaryTree, TernaryForm as TernaryTree, UnaryForm as UnaryTree};
 use std::alloc::{AllocError, Global};
 
@@ -39,7 +40,7 @@ pub(crate) fn unary_form(
 }
 
 /// What a form of one part binds, and how many binders that is.
-pub(crate) fn in_unary(number: u32, form: &UnaryTree) -> (Binding, u32)
+pub(crate) fn in_unary(number: u32, form: &UnaryTree) -> (Binding<Meaning>, u32)
     requires { number + unary_count form.now < 2 ^ 32 }
     ensures binding { result.0 ≡ unary_binding number form.now }
     ensures count { result.1 ≡ unary_count form.now }
@@ -48,14 +49,14 @@ pub(crate) fn in_unary(number: u32, form: &UnaryTree) -> (Binding, u32)
         UnaryTree::Fn(name, _) => (Binding::One(*name, Meaning::Var(number)), 1),
         UnaryTree::Rec(function, parameter, _, _) => (
             Binding::Two(
-                *function,
-                Meaning::Var(number),
                 *parameter,
                 Meaning::Var(number + 1),
+                *function,
+                Meaning::Var(number),
             ),
             2,
         ),
-        _ => (Binding::None, 0),
+        _ => (Binding::Nothing, 0),
     }
 }
 
@@ -79,7 +80,7 @@ pub(crate) fn binary_form(number: u32, form: BinaryTree) -> BinaryForm
 }
 
 /// What a form of two parts binds in its second, and how many binders that is.
-pub(crate) fn in_binary(number: u32, form: BinaryTree) -> (Binding, u32)
+pub(crate) fn in_binary(number: u32, form: BinaryTree) -> (Binding<Meaning>, u32)
     ensures binding { result.0 ≡ binary_binding number form }
     ensures count { result.1 ≡ binary_count form }
 {
@@ -90,7 +91,7 @@ pub(crate) fn in_binary(number: u32, form: BinaryTree) -> (Binding, u32)
         BinaryTree::Put(name) | BinaryTree::Lets(name) => {
             (Binding::One(name, Meaning::Valid(number)), 1)
         }
-        _ => (Binding::None, 0),
+        _ => (Binding::Nothing, 0),
     }
 }
 
@@ -107,27 +108,27 @@ pub(crate) fn ternary_form(second: u32, third: u32, form: TernaryTree) -> Ternar
 }
 
 /// What a form of three parts binds in its second, and how many binders that is.
-pub(crate) fn in_second(number: u32, form: TernaryTree) -> (Binding, u32)
+pub(crate) fn in_second(number: u32, form: TernaryTree) -> (Binding<Meaning>, u32)
     ensures binding { result.0 ≡ second_binding number form }
     ensures count { result.1 ≡ second_count form }
 {
     match form {
         TernaryTree::CaseSum(name, _) => (Binding::One(name, Meaning::Var(number)), 1),
-        _ => (Binding::None, 0),
+        _ => (Binding::Nothing, 0),
     }
 }
 
 /// What a form of three parts binds in its third, and how many binders that is.
-pub(crate) fn in_third(number: u32, form: TernaryTree) -> (Binding, u32)
+pub(crate) fn in_third(number: u32, form: TernaryTree) -> (Binding<Meaning>, u32)
     requires { number + third_count form < 2 ^ 32 }
     ensures binding { result.0 ≡ third_binding number form }
     ensures count { result.1 ≡ third_count form }
 {
     match form {
-        TernaryTree::If => (Binding::None, 0),
+        TernaryTree::If => (Binding::Nothing, 0),
         TernaryTree::CaseSum(_, name) => (Binding::One(name, Meaning::Var(number)), 1),
         TernaryTree::CaseList(head, tail) => (
-            Binding::Two(head, Meaning::Var(number), tail, Meaning::Var(number + 1)),
+            Binding::Two(tail, Meaning::Var(number + 1), head, Meaning::Var(number)),
             2,
         ),
     }

@@ -15,6 +15,7 @@ use crate::places::{of_expr, of_type};
 use m5_lex::Place;
 use m5_raw::raw::Raw;
 use m5_terms::listed::Listed;
+use m5_terms::table::Table;
 use m5_tree::names::Names;
 use m5_tree::tree::{Declarations, Extern, Function, Program, Tree};
 use std::alloc::{AllocError, Global};
@@ -61,7 +62,7 @@ fn places_of(alloc: Global, program: &Program) -> Result<Listed<Place>, AllocErr
 #[tactic(auto, using(crate::proofs::Raws::program_externs_fault, crate::proofs::Raws::program_functions_fault, crate::proofs::Raws::program_main, crate::proofs::Raws::program_main_fault, crate::proofs::Raws::program_few, crate::proofs::Raws::program_sizes, crate::proofs::Raws::raw_of))]
 fn resolve_in(
     alloc: Global,
-    table: &mut [Option<Meaning>],
+    table: &mut Table<Meaning>,
     names: &Names,
     program: &Program,
 ) -> Result<Raw, ScopeEnd>
@@ -84,7 +85,7 @@ fn resolve_program(alloc: Global, tree: &Tree) -> Result<Raw, ScopeEnd>
     ensures found { IfOk result (λ raw. program_resolved tree.now.names tree.now.program ≡ found raw) }
     ensures fault { IfErr result (IsFault (program_resolved tree.now.names tree.now.program)) }
 {
-    let mut table = vec![in alloc; None; tree.names.count()]?;
+    let mut table = Table::make(alloc);
     resolve_in(alloc, &mut table, &tree.names, &tree.program)
 }
 

@@ -3,8 +3,6 @@ use Rattle.std.specs.Prelude.{is_some}
 use Rattle.m5_scope.specs.Meaning.{known}
 use Rattle.m5_scope.specs.Resolving.{IsFault}
 use Rattle.m5_scope.specs.Program.{function_resolved}
-use Rattle.m5_scope.specs.declared.meaning.Meaning.TheVariants.{Glob}
-use Rattle.m5_scope.proofs.Tables.{known_set}
 use Rattle.m5_scope.proofs.Declaring.{function_fault}
 use Rattle.m5_scope.proofs.declare.declare_function.Goals as goal
 
@@ -12,8 +10,8 @@ pub returns-in_err-body-clause-fault : goal.returns-in_err-body-clause-fault
 returns-in_err-body-clause-fault c =
     let item = c.args.item.now in
     let bad : IsFault (function_resolved (known c.args.table.now) c.args.number c.args.next.now item) c.in_err-body.field-0.0 =
-    function_fault (known c.args.table.now) (known c.replace.new.table) c.args.number c.args.next.now item c.in_err-body.field-0.0
+    function_fault (known c.args.table.now) (known c.replace.new.self) c.args.number c.args.next.now item c.in_err-body.field-0.0
     (ap is_some (sym c.meaning_of.ensures) ∙ sym c.is_some.ensures ∙ c.if-is_some.false)
-    (ap known c.in_ok-replace.ensures.table ∙ known_set c.args.table.now item.name (Glob c.args.number) c.in_ok-replace.ensures.within)
+    c.in_ok-replace.ensures.entries
     c.in_err-body.ensures.fault in
     search rules

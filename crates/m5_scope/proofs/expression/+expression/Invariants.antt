@@ -26,7 +26,7 @@ decreases-of_ternary l = 4 * node_count (ternary l.place l.form l.first.now l.se
 
 abbrev pub invariant-of_pairs-loop-part : goal.invariant-of_pairs-loop-part
 invariant-of_pairs-loop-part l =
-    (l.table ≡ l.initial.table)
+    (known l.table ≡ known l.initial.table)
     × IsPartway (known l.initial.table) l.initial.next (pairs l.fn.place l.fn.first l.fn.parts) (weight l.fn.place l.fn.first l.fn.parts) l.heads.items l.next l.at l.expr l.rest
 
 abbrev pub decreases-of_pairs-loop-part : goal.decreases-of_pairs-loop-part
