@@ -2,15 +2,15 @@
 # Prints the files of definitions that a reader of the headline has to believe: those that its statement reaches by `use`
 # lines, each with its lines and the sections of docs/ to hold it against; then those that other claims reach besides; and
 # how many files are left. Which section a file belongs to is read off the paragraphs of docs/ that begin with
-# 'Definitions:'. Fails where a file to be believed stands in none.
+# 'Definitions:'. Fails where a file to be believed stands in none of these, or one of these names a file that is not there.
 set -u
 cd "$(dirname "$0")/.." || exit 1
 . tools/crates.sh
 
 # Where the headline's statement begins, and where the statements of other claims begin.
 headline='m5_cli/specs/Headline m5_cli/specs/Status'
-claims='m5_terms/specs/Playing m5_terms/specs/Related m5_keys/specs/Keys m5_lex/specs/Shown m5_scope/specs/Binders m5_typing/specs/Laws
-  m5_network/specs/Laws m5_site_sound/specs/Laws m5_sound/specs/Laws m5_hall/specs/Passes m5_hall/specs/History'
+claims='m5_terms/specs/Laws m5_terms/specs/Related m5_keys/specs/Keys m5_lex/specs/Shown m5_scope/specs/Binders
+  m5_typing/specs/Laws m5_network/specs/Laws m5_site_sound/specs/Laws m5_sound/specs/Laws m5_hall/specs/Passes m5_hall/specs/History'
 
 # The files that are reached by `use` lines from those that are named, one on a line.
 reached() {
@@ -97,6 +97,9 @@ rest=$(without "$all" "$believed $besides")
 
 problems=$(mktemp) || exit 1
 trap 'rm -f "$problems"' EXIT
+sections | while IFS=$'\t' read -r file section; do
+  [ -f "crates/$file.antt" ] || echo "believed: $section names $file, which is not there" >> "$problems"
+done
 echo "The headline reaches $(wc -w <<< "$believed") files of definitions ($(lines $believed)):"
 echo
 table $believed 2>> "$problems"

@@ -1,4 +1,3 @@
-pub mod Keys
 pub mod DeskChanges
-pub mod Posting
-pub mod Replies
+pub mod Telling
+pub mod Answering

@@ -1,5 +1,2 @@
-pub mod BoardLists
-pub mod LinkItems
-pub mod BoardCodes
-pub mod Pairs
+pub mod Boards
 pub mod Answers

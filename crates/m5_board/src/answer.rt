@@ -1,51 +1,54 @@
 //! The board's answer to each ask.
 
-ghost use Rattle.std.specs.Prelude.{◌≡◌, ◌≢◌, ℕ, length, IfOk, MatchOption};
+ghost use Rattle.std.specs.Prelude.{◌≡◌, ℕ, [], ◌∷◌, ◌++◌, All, length, IfOk, OnOk, OnErr, MatchOption};
+ghost use Rattle.m5_terms.specs.Worlds.{IsSiteWorld, site_worlds};
 ghost use Rattle.m5_terms.specs.declared.types.World.{World};
-ghost use Rattle.m5_terms.specs.declared.types.World.TheVariants.{Home, Server, Any};
-ghost use Rattle.m5_terms.specs.Asks as asks;
-ghost use Rattle.m5_meaning.specs.Site as item;
+ghost use Rattle.m5_terms.specs.declared.types.World.TheVariants.{Home, Server};
+ghost use Rattle.m5_terms.specs.declared.ask.AskOf.TheVariants as ask;
+ghost use Rattle.m5_terms.specs.declared.ask.AnswerOf.TheVariants as answer;
+ghost use Rattle.m5_keys.specs.declared.watch.Watcher.{Watcher};
+ghost use Rattle.m5_network.specs.Board.{answer_of, answered, take_at, take_from, take_other, handlers_of, link};
+ghost use Rattle.m5_network.specs.Board as network;
 ghost use Rattle.m5_network.specs.Entries.{shown};
-ghost use Rattle.m5_network.specs.Claim.{has_seal};
-ghost use Rattle.m5_network.specs.Board.{answer_of, take_other, handlers_of};
-ghost use Rattle.m5_source_site.specs.Waits.{query_of, reply_of, item_of};
-ghost use Rattle.m5_board.specs.BoardLists.{board_of, desk_at, IsSession};
-ghost use Rattle.m5_board.specs.Answers.{IsAnswered, IsAnsweredBy};
+ghost use Rattle.m5_board.specs.Boards.{board_of, desk_at, IsSession};
+ghost use Rattle.m5_board.specs.Answers.{IsAnswered, IsAnsweredBy, told};
 
-use crate::board::{Answered, BoardRow};
-use crate::desk::DeskRow;
-use crate::desks::{
-    handlers_at, post, receive, register, send, set_page, take_event, take_trigger,
-};
-use crate::link::LinkItem;
-use crate::pairs::{copy_text, set_text};
-use crate::rows::{HappeningRow, TriggerRow, WatchRow};
-use m5_source_site::query::{SiteItem, SiteQuery, SiteReply};
-use m5_source_site::thread::SiteThread;
-use m5_terms::ask::Act;
+use crate::board::{Answered, Board};
+use crate::desk::Desk;
+use crate::desks::{fire, on, receive, send, set_text, take_event, take_trigger};
+use m5_keys::watch::{Trigger, Watcher};
+use m5_page::row::Event;
+use m5_terms::ask::{Act, AnswerOf, AskOf};
+use m5_terms::item::Item;
 use m5_terms::text::Text;
 use m5_terms::types::World;
+use m5_terms::worlds::worlds_of_sites;
 use std::alloc::{AllocError, Global};
 
-/// A thread is taken, and bytes without the seal are refused.
-fn received(from: World, item: SiteItem) -> Answered
-    ensures reply { reply_of result.reply ≡ asks.message from (item_of item) }
-    ensures act { result.act ≡ shown has_seal asks.take (asks.message from (item_of item)) }
+/// An item with the session's seal is taken, and another one is refused.
+fn received<I: Item>(session: u32, from: World, item: I) -> Answered<I>
+    ensures reply { result.reply ≡ answer.Message from item }
+    ensures act { result.act ≡ shown (I.has_seal session) ask.Take (answer.Message from item) }
 {
-    let act = match &item {
-        SiteItem::Thread(_) => Act::Take(from),
-        SiteItem::Raw(_) => Act::Refuse,
+    let act = if item.is_sealed(session) {
+        Act::Take(from)
+    } else {
+        Act::Refuse
     };
-    let reply = SiteReply::Message(from, item);
-    Answered { reply, act }
+    Answered {
+        reply: AnswerOf::Message(from, item),
+        act,
+    }
 }
 
 /// What is only told.
-fn told(act: Act) -> Answered
-    ensures { result ≡ record { reply = SiteReply.Done; act = act } }
+fn done<I>(act: Act) -> Answered<I>
+    ensures { result ≡ record { reply = answer.Done; act = act } }
 {
-    let reply = SiteReply::Done;
-    Answered { reply, act }
+    Answered {
+        reply: AnswerOf::Done,
+        act,
+    }
 }
 
 fn act_of_set(alloc: Global, element: &Text, text: &Text) -> Result<Act, AllocError>
@@ -63,54 +66,100 @@ fn act_of_write(alloc: Global, key: &Text, text: &Text) -> Result<Act, AllocErro
 }
 
 /// What a page event tells, with the numbers of its element's handlers.
-fn happened(
+fn happened<I>(
     alloc: Global,
-    desks: &[DeskRow],
+    desks: &[Desk<I>],
     session: u32,
-    event: HappeningRow,
-) -> Result<Answered, AllocError>
+    event: Event,
+) -> Result<Answered<I>, AllocError>
     requires { IsSession session desks.now }
-    ensures reply { IfOk result (λ a. reply_of a.reply ≡ asks.event event.element (handlers_of (desk_at desks.now session).handlers event.element) event.text) }
+    ensures reply { IfOk result (λ a. a.reply ≡ answer.Event event.element (handlers_of (desk_at desks.now session).handlers event.element) event.text) }
     ensures act { IfOk result (λ a. a.act ≡ Act.Event event.element event.text) }
 {
-    let HappeningRow { place, content } = event;
-    let numbers = handlers_at(alloc, desks, session, &place)?;
-    let element = place.copy(alloc)?;
-    let text = content.copy(alloc)?;
+    let Event { element, text } = event;
+    let numbers = desks[session as usize - 1].handlers_of(alloc, element.bytes())?;
+    let act = Act::Event(element.copy(alloc)?, text.copy(alloc)?);
     Ok(Answered {
-        reply: SiteReply::Event(place, numbers, content),
-        act: Act::Event(element, text),
+        reply: AnswerOf::Event(element, numbers, text),
+        act,
     })
 }
 
 /// What a trigger tells.
-fn fired(alloc: Global, trigger: TriggerRow) -> Result<Answered, AllocError>
-    ensures reply { IfOk result (λ a. reply_of a.reply ≡ asks.fired trigger.key trigger.number trigger.text) }
+fn fired<I>(alloc: Global, trigger: Trigger) -> Result<Answered<I>, AllocError>
+    ensures reply { IfOk result (λ a. a.reply ≡ answer.Fired trigger.key trigger.number trigger.text) }
     ensures act { IfOk result (λ a. a.act ≡ Act.Fire trigger.key) }
 {
-    let TriggerRow {
-        written,
-        handler,
-        content,
-    } = trigger;
-    let key = written.copy(alloc)?;
+    let Trigger { key, number, text } = trigger;
+    let act = Act::Fire(key.copy(alloc)?);
     Ok(Answered {
-        reply: SiteReply::Fired(written, handler, content),
-        act: Act::Fire(key),
+        reply: AnswerOf::Fired(key, number, text),
+        act,
     })
 }
 
 /// There is nothing new.
-fn nothing() -> Answered
-    ensures reply { reply_of result.reply ≡ asks.nothing }
-    ensures act { result.act ≡ shown has_seal asks.take asks.nothing }
+fn nothing<I>() -> Answered<I>
+    ensures { result ≡ record { reply = answer.Nothing; act = Act.Refuse } }
 {
-    let reply = SiteReply::Nothing;
-    let act = Act::Refuse;
-    Answered { reply, act }
+    Answered {
+        reply: AnswerOf::Nothing,
+        act: Act::Refuse,
+    }
 }
 
-impl BoardRow {
+/// What is told to a watcher.
+fn trigger_of(
+    alloc: Global,
+    watcher: &Watcher,
+    key: &Text,
+    text: &Text,
+) -> Result<Trigger, AllocError>
+    ensures { IfOk result (λ t. t ≡ record { key = key.now; number = watcher.now.number; text = text.now }) }
+{
+    let key = key.copy(alloc)?;
+    let text = text.copy(alloc)?;
+    Ok(Trigger {
+        key,
+        number: watcher.number,
+        text,
+    })
+}
+
+fn post_one<I>(
+    alloc: Global,
+    desks: &mut Vec<Desk<I>>,
+    watcher: &Watcher,
+    key: &Text,
+    text: &Text,
+) -> Result<(), AllocError>
+    requires { IsSession watcher.now.session desks.old.items }
+    ensures desks { OnOk result (desk_at desks.new.items ≡ told key.now text.now (watcher.now ∷ []) (desk_at desks.old.items)) }
+    ensures count { length desks.new.items ≡ length desks.old.items }
+{
+    let trigger = trigger_of(alloc, watcher, key, text)?;
+    fire(desks, watcher.session, trigger)
+}
+
+/// Adds a trigger for each watcher, in order.
+fn post<I>(
+    alloc: Global,
+    desks: &mut Vec<Desk<I>>,
+    watchers: &[Watcher],
+    key: &Text,
+    text: &Text,
+) -> Result<(), AllocError>
+    requires { All (λ (w : Watcher). IsSession w.session desks.old.items) watchers.now }
+    ensures desks { OnOk result (desk_at desks.new.items ≡ told key.now text.now watchers.now (desk_at desks.old.items)) }
+    ensures count { length desks.new.items ≡ length desks.old.items }
+{
+    for watcher in watchers {
+        post_one(alloc, desks, watcher, key, text)?;
+    }
+    Ok(())
+}
+
+impl<I: Item> Board<I> {
     /// Sets the text of an element of the session's page.
     fn set(
         &mut self,
@@ -118,28 +167,30 @@ impl BoardRow {
         session: u32,
         element: Text,
         text: Text,
-    ) -> Result<Answered, AllocError>
+    ) -> Result<Answered<I>, AllocError>
         requires { IsSession session self.old.desks }
-        ensures answered { (w : World) → IfOk result (λ a. IsAnswered session w (asks.set element text) self.old self.new a) }
+        ensures answered { (w : World) → IfOk result (λ a. IsAnswered (I.has_seal session) session w (ask.Set element text) self.old self.new a) }
         ensures count { length self.new.desks ≡ length self.old.desks }
+        ensures err { OnErr result (self.new ≡ self.old) }
     {
         let act = act_of_set(alloc, &element, &text)?;
-        set_page(&mut self.sessions, session, element, text)?;
-        let reply = SiteReply::Done;
-        Ok(Answered { reply, act })
+        set_text(&mut self.desks, session, element, text)?;
+        Ok(done(act))
     }
 
-    fn get_text(&self, alloc: Global, session: u32, element: Text) -> Result<Answered, AllocError>
+    fn get_text(
+        &self,
+        alloc: Global,
+        session: u32,
+        element: Text,
+    ) -> Result<Answered<I>, AllocError>
         requires { IsSession session self.now.desks }
-        ensures { (w : World) → IfOk result (λ a. IsAnswered session w (asks.get_text element) self.now self.now a) }
+        ensures { (w : World) → IfOk result (λ a. IsAnswered (I.has_seal session) session w (ask.GetText element) self.now self.now a) }
     {
-        let desk = &self.sessions[session as usize - 1];
-        let found = match desk.copy_text(alloc, &element)? {
-            Some(text) => text,
-            None => Text::of(alloc, b"")?,
-        };
-        let act = Act::GetText(element, found.copy(alloc)?);
-        let reply = SiteReply::Found(found);
+        let desk = &self.desks[session as usize - 1];
+        let found = desk.get_text(element.bytes());
+        let act = Act::GetText(element, Text::of(alloc, found)?);
+        let reply = AnswerOf::Found(Text::of(alloc, found)?);
         Ok(Answered { reply, act })
     }
 
@@ -149,49 +200,32 @@ impl BoardRow {
         session: u32,
         element: Text,
         number: u32,
-    ) -> Result<Answered, AllocError>
+    ) -> Result<Answered<I>, AllocError>
         requires { IsSession session self.old.desks }
-        ensures answered { (w : World) → IfOk result (λ a. IsAnswered session w (asks.on element number) self.old self.new a) }
+        ensures answered { (w : World) → IfOk result (λ a. IsAnswered (I.has_seal session) session w (ask.On element number) self.old self.new a) }
         ensures count { length self.new.desks ≡ length self.old.desks }
+        ensures err { OnErr result (self.new ≡ self.old) }
     {
         let act = Act::On(element.copy(alloc)?);
-        register(&mut self.sessions, session, element, number)?;
-        let reply = SiteReply::Done;
-        Ok(Answered { reply, act })
+        on(&mut self.desks, session, element, number)?;
+        Ok(done(act))
     }
 
-    fn read(&self, alloc: Global, key: Text) -> Result<Answered, AllocError>
-        ensures { (s : ℕ) (w : World) → IfOk result (λ a. IsAnswered s w (asks.read key) self.now self.now a) }
+    fn read(&self, alloc: Global, session: u32, key: Text) -> Result<Answered<I>, AllocError>
+        ensures { (w : World) → IfOk result (λ a. IsAnswered (I.has_seal session) session w (ask.Read key) self.now self.now a) }
     {
-        match copy_text(alloc, self.store.as_slice(), &key)? {
+        match self.keys.read(key.bytes()) {
             Some(text) => {
-                let act = Act::ReadSome(key, text.copy(alloc)?);
-                let reply = SiteReply::Found(text);
+                let act = Act::ReadSome(key, Text::of(alloc, text)?);
+                let reply = AnswerOf::Found(Text::of(alloc, text)?);
                 Ok(Answered { reply, act })
             }
             None => {
                 let act = Act::ReadNone(key);
-                let reply = SiteReply::Missing;
+                let reply = AnswerOf::Missing;
                 Ok(Answered { reply, act })
             }
         }
-    }
-
-    fn write(&mut self, alloc: Global, key: Text, text: Text) -> Result<Answered, AllocError>
-        ensures answered { (s : ℕ) (w : World) → IfOk result (λ a. IsAnswered s w (asks.write key text) self.old self.new a) }
-        ensures count { length self.new.desks ≡ length self.old.desks }
-    {
-        let act = act_of_write(alloc, &key, &text)?;
-        post(
-            alloc,
-            &mut self.sessions,
-            self.watching.as_slice(),
-            &key,
-            &text,
-        )?;
-        set_text(&mut self.store, key, text)?;
-        let reply = SiteReply::Done;
-        Ok(Answered { reply, act })
     }
 
     fn watch(
@@ -200,75 +234,100 @@ impl BoardRow {
         session: u32,
         key: Text,
         number: u32,
-    ) -> Result<Answered, AllocError>
+    ) -> Result<Answered<I>, AllocError>
         requires { IsSession session self.old.desks }
-        ensures answered { (w : World) → IfOk result (λ a. IsAnswered session w (asks.watch key number) self.old self.new a) }
+        ensures answered { (w : World) → IfOk result (λ a. IsAnswered (I.has_seal session) session w (ask.Watch key number) self.old self.new a) }
         ensures count { length self.new.desks ≡ length self.old.desks }
+        ensures err { OnErr result (self.new ≡ self.old) }
     {
         let act = Act::Watch(key.copy(alloc)?);
-        self.watching.push(WatchRow {
-            watched: key,
-            watcher: session,
-            handler: number,
-        })?;
-        let reply = SiteReply::Done;
-        Ok(Answered { reply, act })
+        self.keys.watch(key, Watcher { session, number })?;
+        Ok(done(act))
     }
 
+    fn write(
+        &mut self,
+        alloc: Global,
+        session: u32,
+        key: Text,
+        text: Text,
+    ) -> Result<Answered<I>, AllocError>
+        ensures answered { (w : World) → IfOk result (λ a. IsAnswered (I.has_seal session) session w (ask.Write key text) self.old self.new a) }
+        ensures count { length self.new.desks ≡ length self.old.desks }
+    {
+        let act = act_of_write(alloc, &key, &text)?;
+        let watchers = self.keys.watchers(alloc, key.bytes())?;
+        post(alloc, &mut self.desks, watchers.as_slice(), &key, &text)?;
+        self.keys.write(key, text)?;
+        Ok(done(act))
+    }
+
+    /// A send to a world without a site is lost.
     fn send(
         &mut self,
         session: u32,
         from: World,
         to: World,
-        thread: SiteThread,
-    ) -> Result<Answered, AllocError>
+        item: I,
+    ) -> Result<Answered<I>, AllocError>
         requires session { IsSession session self.old.desks }
-        requires from { from ≢ Any }
-        ensures answered { IfOk result (λ a. IsAnswered session from (asks.send to (item.thread thread)) self.old self.new a) }
+        requires from { IsSiteWorld from }
+        ensures answered { IfOk result (λ a. IsAnswered (I.has_seal session) session from (ask.Send to item) self.old self.new a) }
         ensures count { length self.new.desks ≡ length self.old.desks }
+        ensures err { OnErr result (self.new ≡ self.old) }
     {
-        let item = LinkItem::new(SiteItem::Thread(thread));
-        send(&mut self.sessions, session, from, to, item)?;
-        let reply = SiteReply::Done;
-        let act = Act::Send(to);
-        Ok(Answered { reply, act })
+        if matches!(to, World::Any) {
+            return Ok(done(Act::Send(to)));
+        }
+        send(&mut self.desks, session, from, to, item)?;
+        Ok(done(Act::Send(to)))
     }
 
-    /// The first item of a link to the site, if there is one.
-    fn take_message(&mut self, session: u32, at: World) -> Option<Answered>
+    /// Takes the first item off a link.
+    fn receive(&mut self, session: u32, from: World, to: World) -> Option<I>
         requires session { IsSession session self.old.desks }
-        ensures taken { MatchOption result ((answer_of (board_of self.old) session at asks.take ≡ take_other (board_of self.old) session at) × (board_of self.new ≡ board_of self.old)) (λ a. IsAnswered session at asks.take self.old self.new a) }
+        requires from { IsSiteWorld from }
+        requires to { IsSiteWorld to }
+        ensures item { MatchOption result ((link (desk_at self.old.desks session) from to ≡ []) × (self.new ≡ self.old)) (λ i. (rest : network.Answered I) → take_from (board_of self.old) session to from (link (desk_at self.old.desks session) from to) rest ≡ answered (answer.Message from i) (board_of self.new)) }
         ensures count { length self.new.desks ≡ length self.old.desks }
     {
-        match receive(&mut self.sessions, session, World::Home, at) {
-            Some(item) => return Some(received(World::Home, item.into_item())),
-            None => {}
-        }
-        match receive(&mut self.sessions, session, World::Server, at) {
-            Some(item) => return Some(received(World::Server, item.into_item())),
-            None => {}
+        receive(&mut self.desks, session, from, to)
+    }
+
+    /// The first item of the first link to the site that has one, and the world that it is from.
+    fn take_message(&mut self, session: u32, at: World) -> Option<(World, I)>
+        requires session { IsSession session self.old.desks }
+        requires at { IsSiteWorld at }
+        ensures item { MatchOption result ((take_at (board_of self.old) session at site_worlds ≡ take_other (board_of self.old) session at) × (self.new ≡ self.old)) (λ p. take_at (board_of self.old) session at site_worlds ≡ answered (answer.Message p.0 p.1) (board_of self.new)) }
+        ensures count { length self.new.desks ≡ length self.old.desks }
+    {
+        for from in worlds_of_sites() {
+            match self.receive(session, from, at) {
+                Some(item) => return Some((from, item)),
+                None => {}
+            }
         }
         None
     }
 
-    fn take_event(&mut self, alloc: Global, session: u32) -> Result<Answered, AllocError>
+    fn take_event(&mut self, alloc: Global, session: u32) -> Result<Answered<I>, AllocError>
         requires { IsSession session self.old.desks }
-        ensures answered { IfOk result (λ a. IsAnsweredBy (take_other (board_of self.old) session Home) asks.take self.new a) }
+        ensures answered { IfOk result (λ a. IsAnsweredBy (I.has_seal session) (take_other (board_of self.old) session Home) ask.Take self.new a) }
         ensures count { length self.new.desks ≡ length self.old.desks }
     {
-        match take_event(&mut self.sessions, session) {
-            Some(event) => return happened(alloc, self.sessions.as_slice(), session, event),
+        match take_event(&mut self.desks, session) {
+            Some(event) => return happened(alloc, self.desks.as_slice(), session, event),
             None => {}
         }
         Ok(nothing())
     }
 
-    fn take_trigger(&mut self, alloc: Global, session: u32) -> Result<Answered, AllocError>
+    fn take_trigger(&mut self, alloc: Global, session: u32) -> Result<Answered<I>, AllocError>
         requires { IsSession session self.old.desks }
-        ensures answered { IfOk result (λ a. IsAnsweredBy (take_other (board_of self.old) session Server) asks.take self.new a) }
+        ensures answered { IfOk result (λ a. IsAnsweredBy (I.has_seal session) (take_other (board_of self.old) session Server) ask.Take self.new a) }
         ensures count { length self.new.desks ≡ length self.old.desks }
     {
-        match take_trigger(&mut self.sessions, session) {
+        match take_trigger(&mut self.desks, session) {
             Some(trigger) => return fired(alloc, trigger),
             None => {}
         }
@@ -276,19 +335,20 @@ impl BoardRow {
     }
 
     /// What is new for the session's site at a world.
-    fn take(&mut self, alloc: Global, session: u32, at: World) -> Result<Answered, AllocError>
+    fn take(&mut self, alloc: Global, session: u32, at: World) -> Result<Answered<I>, AllocError>
         requires session { IsSession session self.old.desks }
-        requires world { at ≢ Any }
-        ensures answered { IfOk result (λ a. IsAnswered session at asks.take self.old self.new a) }
+        requires at { IsSiteWorld at }
+        ensures answered { IfOk result (λ a. IsAnswered (I.has_seal session) session at ask.Take self.old self.new a) }
         ensures count { length self.new.desks ≡ length self.old.desks }
     {
         match self.take_message(session, at) {
-            Some(answered) => Ok(answered),
-            None => match at {
-                World::Home => self.take_event(alloc, session),
-                World::Server => self.take_trigger(alloc, session),
-                World::Any => unreachable!(),
-            },
+            Some((from, item)) => return Ok(received(session, from, item)),
+            None => {}
+        }
+        match at {
+            World::Home => self.take_event(alloc, session),
+            World::Server => self.take_trigger(alloc, session),
+            World::Panel | World::Any => Ok(nothing()),
         }
     }
 
@@ -298,24 +358,25 @@ impl BoardRow {
         alloc: Global,
         session: u32,
         at: World,
-        query: SiteQuery,
-    ) -> Result<Answered, AllocError>
+        asked: AskOf<I>,
+    ) -> Result<Answered<I>, AllocError>
         requires session { IsSession session self.old.desks }
-        requires world { at ≢ Any }
-        ensures answered { IfOk result (λ a. IsAnswered session at (query_of query) self.old self.new a) }
+        requires at { IsSiteWorld at }
+        ensures answered { IfOk result (λ a. IsAnswered (I.has_seal session) session at asked self.old self.new a) }
         ensures count { length self.new.desks ≡ length self.old.desks }
     {
-        match query {
-            SiteQuery::Say(text) => Ok(told(Act::Say(text))),
-            SiteQuery::Set(element, text) => self.set(alloc, session, element, text),
-            SiteQuery::GetText(element) => self.get_text(alloc, session, element),
-            SiteQuery::On(element, number) => self.on(alloc, session, element, number),
-            SiteQuery::Read(key) => self.read(alloc, key),
-            SiteQuery::Write(key, text) => self.write(alloc, key, text),
-            SiteQuery::Watch(key, number) => self.watch(alloc, session, key, number),
-            SiteQuery::Send(to, thread) => self.send(session, at, to, thread),
-            SiteQuery::Take => self.take(alloc, session, at),
-            SiteQuery::Stop(cause) => Ok(told(Act::Stop(cause))),
+        match asked {
+            AskOf::Say(text) => Ok(done(Act::Say(text))),
+            AskOf::Set(element, text) => self.set(alloc, session, element, text),
+            AskOf::GetText(element) => self.get_text(alloc, session, element),
+            AskOf::On(element, number) => self.on(alloc, session, element, number),
+            AskOf::Read(key) => self.read(alloc, session, key),
+            AskOf::Write(key, text) => self.write(alloc, session, key, text),
+            AskOf::Watch(key, number) => self.watch(alloc, session, key, number),
+            AskOf::Show(text) => Ok(done(Act::Show(text))),
+            AskOf::Send(to, item) => self.send(session, at, to, item),
+            AskOf::Take => self.take(alloc, session, at),
+            AskOf::Stop(cause) => Ok(done(Act::Stop(cause))),
         }
     }
 }

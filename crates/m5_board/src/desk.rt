@@ -1,157 +1,122 @@
 //! What one session has: its page, its triggers, the events left and its links.
 
-ghost use Rattle.std.specs.Prelude.{◌≡◌, ◌≢◌, [], ◌∷◌, ◌++◌, IfOk, OnOk, MatchOption};
-ghost use Rattle.m5_terms.specs.declared.types.World.TheVariants.{Any};
-ghost use Rattle.m5_network.specs.Board.{text_at, set_at, handlers_of};
-ghost use Rattle.m5_board.specs.BoardLists.{links_from, with_links_from, with_links_to, links_to};
+ghost use Rattle.std.specs.Prelude.{◌≡◌, [], ◌∷◌, ◌++◌, IfOk, OnOk, OnErr, MatchOption};
+ghost use Rattle.std.specs.Option.{unwrap_or};
+ghost use Rattle.m5_terms.specs.Worlds.{IsSiteWorld};
+ghost use Rattle.m5_network.specs.Board.{text_at, set_at, handlers_of, link, with_link};
+ghost use Rattle.m5_board.specs.Boards.{TakesLink};
 
-use crate::link::{LinkItem, LinksFrom};
-use crate::pairs::{copy_text, set_text};
-use crate::rows::{HandlingRow, HappeningRow, TriggerRow};
-use m5_script::items::TextPair;
+use m5_keys::watch::Trigger;
+use m5_page::page::Page;
+use m5_page::row::Event;
 use m5_terms::ask::Numbers;
-use m5_terms::listed::Listed;
+use m5_terms::per_world::PerWorld;
 use m5_terms::queue::Queue;
 use m5_terms::text::Text;
 use m5_terms::types::World;
 use std::alloc::{AllocError, Global};
 use std::marker::Model;
 
-/// What one session has.
+/// What one session has, with a link from each of its worlds to each.
 #[derive(Drop)]
-pub struct DeskRow {
-    page: Vec<TextPair>,
-    registered: Vec<HandlingRow>,
-    fired: Queue<TriggerRow>,
-    left: Queue<HappeningRow>,
-    from_home: LinksFrom,
-    from_server: LinksFrom,
+pub struct Desk<I> {
+    page: Page,
+    triggers: Queue<Trigger>,
+    events: Queue<Event>,
+    links: PerWorld<PerWorld<Queue<I>>>,
 }
 
-impl Model for DeskRow {
-    ghost use Rattle.m5_board.specs.BoardLists.{DeskLists};
-    ghost use Rattle.m5_board.specs.BoardCodes.{desk_code};
+impl<I> Model for Desk<I> {
+    ghost use Rattle.m5_network.specs.Board.{Desk};
 
-    ghost Value = { DeskLists };
+    ghost Value = { Desk I };
 
-    ghost coded = { desk_code };
-
-    ghost view = { λ d. record { texts = d.page.items; handlers = d.registered.items; triggers = d.fired; events = d.left; home = d.from_home; server = d.from_server } };
+    ghost view = { λ d. record { texts = d.page.texts; handlers = d.page.handlers; triggers = d.triggers; events = d.events; links = d.links } };
 }
 
-impl DeskRow {
+impl<I> Desk<I> {
     /// A page without texts, with the events and the links that it opens with.
     pub fn opening(
         alloc: Global,
-        events: Queue<HappeningRow>,
-        home: LinksFrom,
-        server: LinksFrom,
-    ) -> DeskRow
-        ensures { result ≡ record { texts = []; handlers = []; triggers = []; events = events; home = home; server = server } }
+        events: Queue<Event>,
+        links: PerWorld<PerWorld<Queue<I>>>,
+    ) -> Desk<I>
+        ensures { result ≡ record { texts = []; handlers = []; triggers = []; events = events; links = links } }
     {
-        DeskRow {
-            page: Vec::new(alloc),
-            registered: Vec::new(alloc),
-            fired: Queue::make(alloc),
-            left: events,
-            from_home: home,
-            from_server: server,
+        Desk {
+            page: Page::make(alloc),
+            triggers: Queue::make(alloc),
+            events,
+            links,
         }
     }
 
-    /// A copy of the text of an element of the page.
-    pub fn copy_text(&self, alloc: Global, element: &Text) -> Result<Option<Text>, AllocError>
-        ensures { IfOk result (λ o. o ≡ text_at self.now.texts element.now) }
+    pub fn get_text(&self, element: &[u8]) -> &[u8]
+        ensures { result.now ≡ unwrap_or (text_at self.now.texts element.now) [] }
     {
-        copy_text(alloc, self.page.as_slice(), element)
+        self.page.get_text(element)
     }
 
     pub fn set_text(&mut self, element: Text, text: Text) -> Result<(), AllocError>
-        ensures { OnOk result (self.new ≡ record self.old { texts = set_at self.old.texts element text }) }
+        ensures ok { OnOk result (self.new ≡ record self.old { texts = set_at self.old.texts element text }) }
+        ensures err { OnErr result (self.new ≡ self.old) }
     {
-        set_text(&mut self.page, element, text)
+        self.page.set_text(element, text)
     }
 
     /// Registers a handler of an element.
-    pub fn register(&mut self, place: Text, handler: u32) -> Result<(), AllocError>
-        ensures { OnOk result (self.new ≡ record self.old { handlers = self.old.handlers ++ record { element = place; number = handler } ∷ [] }) }
+    pub fn on(&mut self, element: Text, number: u32) -> Result<(), AllocError>
+        ensures ok { OnOk result (self.new ≡ record self.old { handlers = self.old.handlers ++ record { element = element; number = number } ∷ [] }) }
+        ensures err { OnErr result (self.new ≡ self.old) }
     {
-        self.registered.push(HandlingRow { place, handler })?;
-        Ok(())
+        self.page.on(element, number)
     }
 
     /// The numbers of an element's handlers, in order of registration.
-    pub fn handlers_of(&self, alloc: Global, element: &Text) -> Result<Numbers, AllocError>
+    pub fn handlers_of(&self, alloc: Global, element: &[u8]) -> Result<Numbers, AllocError>
         ensures { IfOk result (λ ns. ns ≡ handlers_of self.now.handlers element.now) }
     {
-        handlers_among(alloc, self.registered.as_slice(), element)
+        self.page.event(alloc, element)
     }
 
     /// Adds a trigger behind the others.
-    pub fn fire(&mut self, trigger: TriggerRow) -> Result<(), AllocError>
-        ensures { OnOk result (self.new ≡ record self.old { triggers = self.old.triggers ++ trigger ∷ [] }) }
+    pub fn fire(&mut self, trigger: Trigger) -> Result<(), AllocError>
+        ensures ok { OnOk result (self.new ≡ record self.old { triggers = self.old.triggers ++ trigger ∷ [] }) }
+        ensures err { OnErr result (self.new ≡ self.old) }
     {
-        self.fired.push_back(trigger)
+        self.triggers.push_back(trigger)
     }
 
-    pub fn take_trigger(&mut self) -> Option<TriggerRow>
+    pub fn take_trigger(&mut self) -> Option<Trigger>
         ensures { MatchOption result ((self.old.triggers ≡ []) × (self.new ≡ self.old)) (λ t. self.old ≡ record self.new { triggers = t ∷ self.new.triggers }) }
     {
-        self.fired.pop_front()
+        self.triggers.pop_front()
     }
 
-    pub fn take_event(&mut self) -> Option<HappeningRow>
+    pub fn take_event(&mut self) -> Option<Event>
         ensures { MatchOption result ((self.old.events ≡ []) × (self.new ≡ self.old)) (λ e. self.old ≡ record self.new { events = e ∷ self.new.events }) }
     {
-        self.left.pop_front()
+        self.events.pop_front()
     }
 
-    /// Puts an item behind those of the link from one world to another.
-    pub fn send(&mut self, from: World, to: World, item: LinkItem) -> Result<(), AllocError>
-        requires { from ≢ Any }
-        ensures { OnOk result (self.new ≡ with_links_from from (with_links_to to (links_to (links_from self.old from) to ++ item ∷ []) (links_from self.old from)) self.old) }
+    /// Takes the first item off a link.
+    pub fn receive(&mut self, from: World, to: World) -> Option<I>
+        requires from { IsSiteWorld from }
+        requires to { IsSiteWorld to }
+        ensures { MatchOption result ((link self.old from to ≡ []) × (self.new ≡ self.old)) (λ i. TakesLink from to i self.old self.new) }
     {
-        match from {
-            World::Home => self.from_home.add(to, item),
-            World::Server => self.from_server.add(to, item),
-            World::Any => unreachable!(),
-        }
-    }
-
-    /// Takes the first item off the link from one world to another.
-    pub fn receive(&mut self, from: World, to: World) -> Option<LinkItem>
-        requires { from ≢ Any }
-        ensures { MatchOption result ((links_to (links_from self.old from) to ≡ []) × (self.new ≡ self.old)) (λ i. (links_to (links_from self.old from) to ≡ i ∷ links_to (links_from self.new from) to) × (self.new ≡ with_links_from from (with_links_to to (links_to (links_from self.new from) to) (links_from self.old from)) self.old)) }
-    {
-        match from {
-            World::Home => self.from_home.take(to),
-            World::Server => self.from_server.take(to),
-            World::Any => unreachable!(),
-        }
+        self.links.get_mut(from).get_mut(to).pop_front()
     }
 }
 
-/// Adds the number of a handler of the element.
-fn add_number(numbers: &mut Numbers, row: &HandlingRow, element: &Text) -> Result<(), AllocError>
-    ensures { OnOk result (numbers.new ≡ numbers.old ++ handlers_of (row.now ∷ []) element.now) }
-{
-    if row.place.bytes() == element.bytes() {
-        numbers.push(row.handler)
-    } else {
-        Ok(())
+impl<I: Drop> Desk<I> {
+    /// Puts an item behind those of a link.
+    pub fn send(&mut self, from: World, to: World, item: I) -> Result<(), AllocError>
+        requires from { IsSiteWorld from }
+        requires to { IsSiteWorld to }
+        ensures ok { OnOk result (self.new ≡ with_link from to (link self.old from to ++ item ∷ []) self.old) }
+        ensures err { OnErr result (self.new ≡ self.old) }
+    {
+        self.links.get_mut(from).get_mut(to).push_back(item)
     }
-}
-
-fn handlers_among(
-    alloc: Global,
-    rows: &[HandlingRow],
-    element: &Text,
-) -> Result<Numbers, AllocError>
-    ensures { IfOk result (λ ns. ns ≡ handlers_of rows.now element.now) }
-{
-    let mut numbers: Numbers = Listed::make(alloc);
-    for row in rows {
-        add_number(&mut numbers, row, element)?;
-    }
-    Ok(numbers)
 }

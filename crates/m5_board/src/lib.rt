@@ -1,10 +1,8 @@
-//! The board over source threads as code: its answer to each ask.
+//! The board: the key store, the watches and what each session has, over any kind of item that
+//! goes along its links, and its answers.
 #![tactic(auto)]
 
 pub mod answer;
 pub mod board;
 pub mod desk;
 mod desks;
-pub mod link;
-mod pairs;
-pub mod rows;

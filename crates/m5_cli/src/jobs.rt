@@ -61,12 +61,10 @@ fn answer<K: Sink>(alloc: Global, job: Job, input: &[u8], sink: &mut K) -> Statu
 /// ran out. So an accepted program, with a script where the job reads one, is answered with the job's output, or by a
 /// fault, `NoMemory` or, of `run`, `Unbuilt`.
 pub fn plain<S: Source, K: Sink>(alloc: Global, job: Job, source: &mut S, sink: &mut K) -> Status
-    ensures {
-        Headline job
-            (record { left = S.left source.old; held = K.held sink.old; read_faults = S.faults source.old; write_faults = K.faults sink.old })
-            (record { left = S.left source.new; held = K.held sink.new; read_faults = S.faults source.new; write_faults = K.faults sink.new })
-            result
-    }
+    ensures { Headline job
+        (record { left = S.left source.old; held = K.held sink.old; read_faults = S.faults source.old; write_faults = K.faults sink.old })
+        (record { left = S.left source.new; held = K.held sink.new; read_faults = S.faults source.new; write_faults = K.faults sink.new })
+        result }
 {
     match read_all(alloc, source, INPUT_LIMIT) {
         Err(ReadEnd::Failed) => Status::ReadFault,

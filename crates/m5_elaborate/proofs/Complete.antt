@@ -29,7 +29,7 @@ use Rattle.m5_raw.specs.Resolved.{Resolved, leaf, unary, binary, ternary}
 use Rattle.m5_terms.specs.InText.{leaf_in_text, unary_in_text}
 use Rattle.m5_raw.specs.InText.{in_text}
 use Rattle.m5_elaborate.specs.declared.names.Bound.TheVariants as bound
-use Rattle.m5_elaborate.specs.declared.names.Binding.TheVariants.{Nothing, One, Two}
+use Rattle.m5_terms.specs.declared.table.Binding.TheVariants.{Nothing, One, Two}
 use Rattle.m5_elaborate.specs.declared.parts.Inside.{Inside}
 use Rattle.m5_elaborate.specs.declared.arms.Arms.{Arms}
 use Rattle.m5_terms.specs.Outcome.{found, and_then}

@@ -28,10 +28,11 @@ use Rattle.m5_raw.specs.InText.{in_text}
 use Rattle.m5_terms.specs.Outcome.{found, and_then}
 use Rattle.m5_elaborate.specs.Outcome.{refused}
 use Rattle.m5_elaborate.specs.declared.end.Kind.TheVariants.{WrongWorld}
+use Rattle.m5_elaborate.specs.declared.names.Bound.{Bound as NameBound}
 use Rattle.m5_elaborate.specs.declared.names.Bound.TheVariants as bound
 use Rattle.m5_elaborate.specs.declared.names.Bound.TheVariants.{Local}
-use Rattle.m5_elaborate.specs.declared.names.Binding.{Binding}
-use Rattle.m5_elaborate.specs.declared.names.Binding.TheVariants.{Nothing, One, Two}
+use Rattle.m5_terms.specs.declared.table.Binding.{Binding}
+use Rattle.m5_terms.specs.declared.table.Binding.TheVariants.{Nothing, One, Two}
 use Rattle.m5_elaborate.specs.declared.parts.Inside.{Inside}
 use Rattle.m5_elaborate.specs.declared.arms.Arms.{Arms}
 use Rattle.m5_elaborate.specs.Names.{under}
@@ -161,7 +162,7 @@ unary_sound (Held v) p w a A B K P e s h = cc
 moved : (i j : Inside) (G : Context) (P : World → Context → TypeExpression → Type 0) (Y : TypeExpression) → finds i ≡ finds j → P j.world (under j.binding G) Y → P i.world (under i.binding G) Y
 moved i j G P Y e h = subst (λ k. P k.world (under k.binding G) Y) (sym (found_is i j e)) h
 
-abbrev at_world : World → Binding → Inside
+abbrev at_world : World → Binding NameBound → Inside
 at_world w b = record { world = w; binding = b }
 
 get_sound : (p : Place) (w : World) (A X Y : TypeExpression) (j : Inside) (G : Context) (First : TypeExpression → Type 0) (P : World → Context → TypeExpression → Type 0)

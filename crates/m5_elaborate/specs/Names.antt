@@ -1,16 +1,15 @@
 -- What the variables are bound to, read off a table with an entry for each binder.
-use Rattle.std.specs.Prelude.{◌≡◌, ℕ, ◌+◌, ◌==◌, ◌≤◌, if◌then◌else◌, Option, Some, None, List, slice_index_or}
+use Rattle.std.specs.Prelude.{◌≡◌, ℕ, ◌+◌, ◌==◌, ◌≤◌, if◌then◌else◌, Option, Some, None}
 use Rattle.m5_terms.specs.declared.form.UnaryForm.{UnaryForm}
 use Rattle.m5_terms.specs.declared.form.UnaryForm.TheVariants.{Sham}
+use Rattle.m5_terms.specs.Table as table
+use Rattle.m5_terms.specs.declared.table.Binding.{Binding}
+use Rattle.m5_terms.specs.declared.table.Binding.TheVariants.{Nothing, One, Two}
 use Rattle.m5_typing.specs.Context as typing
 use Rattle.m5_typing.specs.Context.{Context, nothing, with}
 use Rattle.m5_elaborate.specs.declared.names.Bound.{Bound}
 use Rattle.m5_elaborate.specs.declared.names.Bound.TheVariants.{Local, Valid}
-use Rattle.m5_elaborate.specs.declared.names.Binding.{Binding}
-use Rattle.m5_elaborate.specs.declared.names.Binding.TheVariants.{Nothing, One, Two}
 use Rattle.m5_elaborate.specs.declared.names.Entry.{Entry}
-use Rattle.m5_elaborate.specs.declared.names.Outer.{Outer}
-use Rattle.m5_elaborate.specs.declared.names.Outer.TheVariants as outer
 
 -- what the rules call a bound
 abbrev pub bound_of : Bound → typing.Bound
@@ -18,7 +17,7 @@ bound_of (Local w A) = typing.local w A
 bound_of (Valid A) = typing.valid A
 
 -- the context inside a form's binders, the first of them innermost
-abbrev pub under : Binding → Context → Context
+abbrev pub under : Binding Bound → Context → Context
 under Nothing G = G
 under (One x b) G = with x (Some (bound_of b)) G
 under (Two x b y c) G = with x (Some (bound_of b)) (with y (Some (bound_of c)) G)
@@ -26,14 +25,6 @@ under (Two x b y c) G = with x (Some (bound_of b)) (with y (Some (bound_of c)) G
 -- a table as a function from numbers
 abbrev pub Entries : Type 0
 Entries = ℕ → Option Entry
-
--- a number past the end has no entry
-abbrev pub entries : List (Option Entry) → Entries
-entries table = λ y. slice_index_or table y None
-
--- another entry for one number
-abbrev pub put : ℕ → Option Entry → Entries → Entries
-put x e s = λ y. if y == x then e else s y
 
 -- a local name is seen at the depth of `sham` at which it was bound, and not further in
 abbrev pub seen_bound : ℕ → ℕ → Bound → Option typing.Bound
@@ -72,14 +63,12 @@ pub record IsBare (s : Entries) : Type 0 where
 abbrev pub entry : ℕ → Bound → Option Entry
 entry depth b = Some (record { depth = depth; bound = b })
 
--- the entries inside a form's binders
-abbrev pub entered : ℕ → Binding → Entries → Entries
-entered depth Nothing s = s
-entered depth (One x b) s = put x (entry depth b) s
-entered depth (Two x b y c) s = put x (entry depth b) (put y (entry depth c) s)
+-- the binders of a form, each with the depth at which it is bound
+abbrev pub at_depth : ℕ → Binding Bound → Binding Entry
+at_depth depth Nothing = Nothing
+at_depth depth (One x b) = One x (record { depth = depth; bound = b })
+at_depth depth (Two x b y c) = Two x (record { depth = depth; bound = b }) y (record { depth = depth; bound = c })
 
--- the entries that the binders hid are put back
-abbrev pub left : Outer → Entries → Entries
-left outer.Nothing s = s
-left (outer.One x e) s = put x e s
-left (outer.Two x e y d) s = put y d (put x e s)
+-- the entries inside a form's binders
+abbrev pub entered : ℕ → Binding Bound → Entries → Entries
+entered depth b s = table.entered (at_depth depth b) s

@@ -12,9 +12,10 @@ use Rattle.m5_terms.specs.declared.form.BinaryForm.TheVariants.{Call, Pair, Cons
 use Rattle.m5_terms.specs.declared.form.TernaryForm.{TernaryForm}
 use Rattle.m5_terms.specs.declared.form.TernaryForm.TheVariants.{If, CaseSum, CaseList}
 use Rattle.m5_typing.specs.Operators.{operand, outcome}
+use Rattle.m5_elaborate.specs.declared.names.Bound.{Bound}
 use Rattle.m5_elaborate.specs.declared.names.Bound.TheVariants as bound
-use Rattle.m5_elaborate.specs.declared.names.Binding.{Binding}
-use Rattle.m5_elaborate.specs.declared.names.Binding.TheVariants.{Nothing, One, Two}
+use Rattle.m5_terms.specs.declared.table.Binding.{Binding}
+use Rattle.m5_terms.specs.declared.table.Binding.TheVariants.{Nothing, One, Two}
 use Rattle.m5_elaborate.specs.declared.parts.Inside.{Inside}
 use Rattle.m5_elaborate.specs.declared.arms.Arms.{Arms}
 use Rattle.m5_elaborate.specs.declared.end.Kind.TheVariants.{WrongWorld, NotMobile, Mismatch, NotSum, NotList, NotAt, NotSham, NotGeneric}
@@ -29,7 +30,7 @@ unary_world Sham w = Any
 unary_world _ w = w
 
 -- and what is bound in it
-abbrev pub unary_binding : UnaryForm → World → Binding
+abbrev pub unary_binding : UnaryForm → World → Binding Bound
 unary_binding (Fn x A) w = One x (bound.Local w A)
 unary_binding (Rec f x A B) w = Two x (bound.Local w A) f (bound.Local w (function A B))
 unary_binding _ w = Nothing
@@ -52,7 +53,7 @@ unary_type Spawn p w v B = if_same (same_type B unit) p unit
 unary_type (Held u) p w v B = refused WrongWorld p
 
 -- a second part stands at w, with these binders
-abbrev pub inside : World → Binding → Outcome Inside
+abbrev pub inside : World → Binding Bound → Outcome Inside
 inside w b = found (record { world = w; binding = b })
 
 -- only a mobile type is put

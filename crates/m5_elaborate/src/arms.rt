@@ -9,20 +9,21 @@ ghost use Rattle.m5_elaborate.specs.Parts.{if_same};
 ghost use Rattle.m5_elaborate.specs.Synthesis.{addressed, arms, get_part, list_arms, opened_hold, opened_sham, put_part, second_part, sum_arms, ternary_type, unary_binding, unary_world};
 
 use crate::end::{Kind, TypeEnd};
-use crate::names::{Binding, Bound};
+use crate::names::Bound;
 use crate::parts::{Inside, if_same_type};
 use crate::synthesis::{function_of, is_at_any};
 use m5_lex::Place;
 use m5_terms::form::{BinaryForm, TernaryForm};
 use m5_terms::opened::UnaryView;
+use m5_terms::table::Binding;
 use m5_terms::types::{Shape, Ty, World, is_mobile, is_same};
 use std::alloc::{AllocError, Global};
 
 /// What is bound in the second and in the third part.
 #[derive(Drop)]
 pub struct Arms {
-    pub second: Binding,
-    pub third: Binding,
+    pub second: Binding<Bound>,
+    pub third: Binding<Bound>,
 }
 
 /// The world of a form's one part.
@@ -51,21 +52,21 @@ pub(crate) fn binding_of_part(
     alloc: Global,
     form: &UnaryView<'_>,
     world: World,
-) -> Result<Binding, AllocError>
+) -> Result<Binding<Bound>, AllocError>
     ensures { IfOk result (λ b. b ≡ unary_binding (viewed_unary form.now) world) }
 {
     match form {
         UnaryView::Fn(number, ty) => {
             let ty = ty.copy(alloc)?;
-            Ok(Binding::One(*number, Bound::Local(world, ty)))
+            Ok(Binding::One(*number as usize, Bound::Local(world, ty)))
         }
         UnaryView::Rec(number, parameter, ty, codomain) => {
             let domain = ty.copy(alloc)?;
             let whole = function_of(alloc, ty.copy(alloc)?, codomain.copy(alloc)?)?;
             Ok(Binding::Two(
-                *parameter,
+                *parameter as usize,
                 Bound::Local(world, domain),
-                *number,
+                *number as usize,
                 Bound::Local(world, whole),
             ))
         }
@@ -87,7 +88,7 @@ fn in_put(
     }
     Ok(Inside {
         world,
-        binding: Binding::One(number, Bound::Valid(first.copy(alloc)?)),
+        binding: Binding::One(number as usize, Bound::Valid(first.copy(alloc)?)),
     })
 }
 
@@ -107,7 +108,7 @@ fn in_leta(
             }
             Ok(Inside {
                 world,
-                binding: Binding::One(number, Bound::Local(*at, ty.get().copy(alloc)?)),
+                binding: Binding::One(number as usize, Bound::Local(*at, ty.get().copy(alloc)?)),
             })
         }
         _ => Err(TypeEnd::Refused(Kind::NotAt, place)),
@@ -126,7 +127,7 @@ fn in_lets(
     match &first.shape {
         Shape::Sham(ty) => Ok(Inside {
             world,
-            binding: Binding::One(number, Bound::Valid(ty.get().copy(alloc)?)),
+            binding: Binding::One(number as usize, Bound::Valid(ty.get().copy(alloc)?)),
         }),
         _ => Err(TypeEnd::Refused(Kind::NotSham, place)),
     }
@@ -165,7 +166,7 @@ pub(crate) fn in_second_part(
     match form {
         BinaryForm::Val(number) => Ok(Inside {
             world,
-            binding: Binding::One(number, Bound::Local(world, first.copy(alloc)?)),
+            binding: Binding::One(number as usize, Bound::Local(world, first.copy(alloc)?)),
         }),
         BinaryForm::Put(number) => in_put(alloc, number, place, world, first),
         BinaryForm::Leta(number) => in_leta(alloc, number, place, world, first),
@@ -195,10 +196,10 @@ fn in_sum(
 {
     match &first.shape {
         Shape::Sum(a, b) => {
-            let second = Binding::One(left, Bound::Local(world, a.get().copy(alloc)?));
+            let second = Binding::One(left as usize, Bound::Local(world, a.get().copy(alloc)?));
             Ok(Arms {
                 second,
-                third: Binding::One(right, Bound::Local(world, b.get().copy(alloc)?)),
+                third: Binding::One(right as usize, Bound::Local(world, b.get().copy(alloc)?)),
             })
         }
         _ => Err(TypeEnd::Refused(Kind::NotSum, place)),
@@ -221,7 +222,7 @@ fn in_list(
             let rest = Bound::Local(world, first.copy(alloc)?);
             Ok(Arms {
                 second: Binding::Nothing,
-                third: Binding::Two(tail, rest, head, element),
+                third: Binding::Two(tail as usize, rest, head as usize, element),
             })
         }
         _ => Err(TypeEnd::Refused(Kind::NotList, place)),

@@ -3,16 +3,17 @@
 ghost use Rattle.std.specs.Prelude.{◌≡◌, ◌+◌, ◌<◌, ◌^◌, IfErr, IfOk, OnOk};
 ghost use Rattle.m5_raw.specs.Resolved.{unary, binary, ternary, node_count};
 ghost use Rattle.m5_terms.specs.Opened.{viewed_unary};
+ghost use Rattle.m5_terms.specs.Table.{entries};
 ghost use Rattle.m5_terms.specs.declared.form.BinaryForm.TheVariants.{Pair};
 ghost use Rattle.m5_elaborate.specs.Outcome.{Ends};
-ghost use Rattle.m5_elaborate.specs.Names.{context, entries, under, IsShallow};
+ghost use Rattle.m5_elaborate.specs.Names.{context, under, IsShallow};
 ghost use Rattle.m5_elaborate.specs.Checked.{checked, signatures};
 
 use crate::arms::{
     binding_of_part, depth_of_part, in_arms, in_second_part, of_ternary, world_of_part,
 };
 use crate::end::TypeEnd;
-use crate::names::{Binding, Names, enter, leave};
+use crate::names::{Bound, Names, enter};
 use crate::pairs::{pair_up, place_of_node, wait};
 use crate::size::limited;
 use crate::synthesis::{of_binary, of_leaf, of_unary};
@@ -21,6 +22,7 @@ use m5_raw::function::Function;
 use m5_raw::node::Node;
 use m5_terms::form::{BinaryForm, TernaryForm};
 use m5_terms::opened::{Opened, UnaryView};
+use m5_terms::table::Binding;
 use m5_terms::types::{Ty, World};
 use std::alloc::Global;
 
@@ -32,17 +34,17 @@ pub(crate) fn within(
     names: &mut Names,
     depth: u32,
     world: World,
-    binding: Binding,
+    binding: Binding<Bound>,
     node: &Node,
 ) -> Result<Ty, TypeEnd>
-    requires shallow { IsShallow depth (entries names.old.items) }
+    requires shallow { IsShallow depth (entries names.old) }
     requires room { depth + node_count node.now < 2 ^ 32 }
-    ensures ends { Ends result (checked (signatures known.now) (under binding (context depth (entries names.old.items))) world node.now) }
-    ensures names { OnOk result (entries names.new.items ≡ entries names.old.items) }
+    ensures ends { Ends result (checked (signatures known.now) (under binding (context depth (entries names.old))) world node.now) }
+    ensures names { OnOk result (entries names.new ≡ entries names.old) }
 {
     let outer = enter(names, depth, binding)?;
     let ty = check(alloc, known, names, depth, world, node)?;
-    leave(names, outer)?;
+    names.leave(outer)?;
     Ok(ty)
 }
 
@@ -57,10 +59,10 @@ fn check_unary(
     form: UnaryView<'_>,
     first: &Node,
 ) -> Result<Ty, TypeEnd>
-    requires shallow { IsShallow depth (entries names.old.items) }
+    requires shallow { IsShallow depth (entries names.old) }
     requires room { depth + node_count (unary place (viewed_unary form) first.now) < 2 ^ 32 }
-    ensures ends { Ends result (checked (signatures known.now) (context depth (entries names.old.items)) world (unary place (viewed_unary form.entry) first.now)) }
-    ensures names { OnOk result (entries names.new.items ≡ entries names.old.items) }
+    ensures ends { Ends result (checked (signatures known.now) (context depth (entries names.old)) world (unary place (viewed_unary form.entry) first.now)) }
+    ensures names { OnOk result (entries names.new ≡ entries names.old) }
 {
     let inside = world_of_part(&form, world);
     let deeper = depth_of_part(&form, depth);
@@ -82,10 +84,10 @@ fn check_binary(
     first: &Node,
     second: &Node,
 ) -> Result<Ty, TypeEnd>
-    requires shallow { IsShallow depth (entries names.old.items) }
+    requires shallow { IsShallow depth (entries names.old) }
     requires room { depth + node_count (binary place form first.now second.now) < 2 ^ 32 }
-    ensures ends { Ends result (checked (signatures known.now) (context depth (entries names.old.items)) world (binary place form first.now second.now)) }
-    ensures names { OnOk result (entries names.new.items ≡ entries names.old.items) }
+    ensures ends { Ends result (checked (signatures known.now) (context depth (entries names.old)) world (binary place form first.now second.now)) }
+    ensures names { OnOk result (entries names.new ≡ entries names.old) }
 {
     let first = check(alloc, known, names, depth, world, first)?;
     let inside = in_second_part(alloc, form, place, world, &first)?;
@@ -114,10 +116,10 @@ fn check_pairs(
     first: &Node,
     second: &Node,
 ) -> Result<Ty, TypeEnd>
-    requires shallow { IsShallow depth (entries names.old.items) }
+    requires shallow { IsShallow depth (entries names.old) }
     requires room { depth + node_count (binary place Pair first.now second.now) < 2 ^ 32 }
-    ensures ends { Ends result (checked (signatures known.now) (context depth (entries names.old.items)) world (binary place Pair first.now second.now)) }
-    ensures names { OnOk result (entries names.new.items ≡ entries names.old.items) }
+    ensures ends { Ends result (checked (signatures known.now) (context depth (entries names.old)) world (binary place Pair first.now second.now)) }
+    ensures names { OnOk result (entries names.new ≡ entries names.old) }
 {
     let mut waiting = Vec::new(alloc);
     let ty = check(alloc, known, names, depth, world, first)?;
@@ -145,10 +147,10 @@ fn check_ternary(
     second: &Node,
     third: &Node,
 ) -> Result<Ty, TypeEnd>
-    requires shallow { IsShallow depth (entries names.old.items) }
+    requires shallow { IsShallow depth (entries names.old) }
     requires room { depth + node_count (ternary place form first.now second.now third.now) < 2 ^ 32 }
-    ensures ends { Ends result (checked (signatures known.now) (context depth (entries names.old.items)) world (ternary place form first.now second.now third.now)) }
-    ensures names { OnOk result (entries names.new.items ≡ entries names.old.items) }
+    ensures ends { Ends result (checked (signatures known.now) (context depth (entries names.old)) world (ternary place form first.now second.now third.now)) }
+    ensures names { OnOk result (entries names.new ≡ entries names.old) }
 {
     let first = check(alloc, known, names, depth, world, first)?;
     let bound = in_arms(alloc, form, place, world, &first)?;
@@ -168,10 +170,10 @@ pub(crate) fn check(
     world: World,
     node: &Node,
 ) -> Result<Ty, TypeEnd>
-    requires shallow { IsShallow depth (entries names.old.items) }
+    requires shallow { IsShallow depth (entries names.old) }
     requires room { depth + node_count node.now < 2 ^ 32 }
-    ensures ends { Ends result (checked (signatures known.now) (context depth (entries names.old.items)) world node.now) }
-    ensures names { OnOk result (entries names.new.items ≡ entries names.old.items) }
+    ensures ends { Ends result (checked (signatures known.now) (context depth (entries names.old)) world node.now) }
+    ensures names { OnOk result (entries names.new ≡ entries names.old) }
 {
     let place = node.place;
     match node.open() {

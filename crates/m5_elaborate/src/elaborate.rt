@@ -3,9 +3,10 @@
 ghost use Rattle.std.specs.Prelude.{◌≡◌, ◌≢◌, ◌<◌, ◌^◌, [], IfErr, IfOk, OnOk};
 ghost use Rattle.m5_raw.specs.Resolved.{node_count};
 ghost use Rattle.m5_raw.specs.RawTerm.{IsRaw};
+ghost use Rattle.m5_terms.specs.Table.{entries};
 ghost use Rattle.m5_terms.specs.Outcome.{found};
 ghost use Rattle.m5_elaborate.specs.Outcome.{Ends, IsFault};
-ghost use Rattle.m5_elaborate.specs.Names.{entries, IsBare};
+ghost use Rattle.m5_elaborate.specs.Names.{IsBare};
 ghost use Rattle.m5_elaborate.specs.Checked.{function_checked, main_checked, rest_elaborated, elaborated};
 ghost use Rattle.m5_elaborate.specs.Erased.{erased_program};
 ghost use Rattle.m5_elaborate.specs.declared.end.TypeEnd.TheVariants.{Memory};
@@ -14,12 +15,13 @@ ghost use Rattle.m5_typing.specs.Program.{IsProgram};
 use crate::check::{check, within};
 use crate::end::TypeEnd;
 use crate::erase::{erase, functions};
-use crate::names::{Binding, Bound, Names};
+use crate::names::{Bound, Names};
 use crate::parts::if_same_type;
 use crate::size::limited;
 use crate::synthesis::function_of;
 use m5_raw::function::Function;
 use m5_raw::raw::Raw;
+use m5_terms::table::Binding;
 use m5_terms::types::{Shape, Ty, World, is_same};
 use m5_typing::program::Program;
 use std::alloc::Global;
@@ -31,16 +33,19 @@ fn check_function(
     names: &mut Names,
     function: &Function,
 ) -> Result<Ty, TypeEnd>
-    requires bare { IsBare (entries names.old.items) }
+    requires bare { IsBare (entries names.old) }
     requires room { node_count function.now.body < 2 ^ 32 }
     ensures ends { Ends result (function_checked known.now function.now) }
-    ensures names { OnOk result (entries names.new.items ≡ entries names.old.items) }
+    ensures names { OnOk result (entries names.new ≡ entries names.old) }
 {
     let ty = function.ty.copy(alloc)?;
     let whole = function_of(alloc, ty, function.result.copy(alloc)?)?;
     let whole = limited(function.place, whole)?;
     let ty = function.ty.copy(alloc)?;
-    let binding = Binding::One(function.parameter, Bound::Local(function.world, ty));
+    let binding = Binding::One(
+        function.parameter as usize,
+        Bound::Local(function.world, ty),
+    );
     let body = within(
         alloc,
         known,
@@ -55,10 +60,10 @@ fn check_function(
 
 /// Looks at the declared functions in their order.
 fn check_functions(alloc: Global, names: &mut Names, raw: &Raw) -> Result<(), TypeEnd>
-    requires { IsBare (entries names.old.items) }
+    requires { IsBare (entries names.old) }
     ensures limits { IsRaw raw.now }
     ensures value { OnOk result (elaborated raw.now ≡ rest_elaborated raw.now.functions [] raw.now) }
-    ensures names { OnOk result (entries names.new.items ≡ entries names.old.items) }
+    ensures names { OnOk result (entries names.new ≡ entries names.old) }
     ensures fault { IfErr result (IsFault (elaborated raw.now)) }
 {
     let items = raw.functions();
@@ -70,7 +75,7 @@ fn check_functions(alloc: Global, names: &mut Names, raw: &Raw) -> Result<(), Ty
 
 /// The type of the main term, which has to be unit.
 fn check_main(alloc: Global, names: &mut Names, raw: &Raw) -> Result<Ty, TypeEnd>
-    requires { IsBare (entries names.old.items) }
+    requires { IsBare (entries names.old) }
     ensures { Ends result (main_checked raw.now) }
 {
     let known = raw.functions();
@@ -89,7 +94,7 @@ pub fn elaborate(alloc: Global, raw: &Raw) -> Result<Program, TypeEnd>
     ensures fault { IfErr result (IsFault (elaborated raw.now)) }
     ensures untyped { IfErr result (λ e. e ≢ Memory → IsProgram (erased_program raw.now) → ⊥) }
 {
-    let mut names = Vec::new(alloc);
+    let mut names = Names::make(alloc);
     check_functions(alloc, &mut names, raw)?;
     check_main(alloc, &mut names, raw)?;
     let items = functions(alloc, raw.functions())?;

@@ -5,8 +5,9 @@ ghost use Rattle.m5_elaborate.specs.Outcome.{Ends};
 ghost use Rattle.m5_elaborate.specs.Parts.{if_same, first_of, second_of, content_of, applied, added, stored, injected_left, injected_right};
 
 use crate::end::{Kind, TypeEnd};
-use crate::names::Binding;
+use crate::names::Bound;
 use m5_lex::Place;
+use m5_terms::table::Binding;
 use m5_terms::types::{Shape, Ty, World, is_same};
 use std::alloc::Global;
 
@@ -14,7 +15,7 @@ use std::alloc::Global;
 #[derive(Drop)]
 pub struct Inside {
     pub world: World,
-    pub binding: Binding,
+    pub binding: Binding<Bound>,
 }
 
 /// The type, where a check on types holds.

@@ -1,6 +1,7 @@
 //! The type of a node from those of its parts.
 
 ghost use Rattle.std.specs.Prelude.{◌≡◌, ◌&&◌, IfErr, IfOk};
+ghost use Rattle.m5_terms.specs.Table.{entries};
 ghost use Rattle.m5_terms.specs.Opened.{viewed_leaf, viewed_unary};
 ghost use Rattle.m5_terms.specs.TypeExpression.{int, unit, product, sum, function, list, cell, sham, at, same_type};
 ghost use Rattle.m5_typing.specs.Operators.{operand, outcome};
@@ -8,14 +9,14 @@ ghost use Rattle.m5_typing.specs.Value.{is_value_form};
 ghost use Rattle.m5_elaborate.specs.Erased.{erased};
 ghost use Rattle.m5_elaborate.specs.Outcome.{Ends};
 ghost use Rattle.m5_elaborate.specs.Parts.{if_same, hold_type, sham_type, moved_type};
-ghost use Rattle.m5_elaborate.specs.Names.{context, entries};
+ghost use Rattle.m5_elaborate.specs.Names.{context};
 ghost use Rattle.m5_elaborate.specs.Checked.{signatures};
 ghost use Rattle.m5_elaborate.specs.Leaves.{is_any, address_type, extern_type, leaf_type};
 ghost use Rattle.m5_elaborate.specs.Synthesis.{unary_type, binary_type};
 
 use crate::declared::declared;
 use crate::end::{Kind, TypeEnd};
-use crate::names::{Entry, local, valid};
+use crate::names::{Names, local, valid};
 use crate::parts::{
     call_type, cons_type, content_of_cell, first_of_pair, if_same_type, left_type, right_type,
     second_of_pair, store_type,
@@ -99,7 +100,7 @@ fn of_address(place: Place, world: World) -> Result<Ty, TypeEnd>
 pub(crate) fn of_leaf(
     alloc: Global,
     known: &[Function],
-    names: &[Option<Entry>],
+    names: &Names,
     depth: u32,
     world: World,
     place: Place,

@@ -1,16 +1,14 @@
 -- Turns, rounds and the plain order are runs by the places that their deeds show, of any kind of sites whose stops stand apart.
-use Rattle.std.proofs.Common.{◌≡◌, ◌≢◌, inl, inr, ℕ, zero, suc, ◌≤◌, Bool, true, false, Option, None, Some, List, [], ◌∷◌, ◌++◌, map, refl, sym, ap, subst, arith, if◌then◌else◌}
+use Rattle.std.proofs.Common.{◌≡◌, inl, inr, ℕ, zero, suc, ◌≤◌, Bool, true, false, Option, None, Some, List, [], ◌∷◌, ◌++◌, map, refl, sym, ap, subst, arith, if◌then◌else◌}
 use Rattle.std.proofs.lemmas.List.{map-append}
 use Rattle.std.proofs.lemmas.List.Elements.{recursion_from_All}
 use Rattle.std.specs.List.{AllByRecursion as Each}
-use Rattle.m5_terms.specs.Worlds.{site_worlds, IsSiteWorld}
+use Rattle.m5_terms.specs.Worlds.{site_worlds}
 use Rattle.m5_terms.proofs.Lists.{each-map, each-append}
 use Rattle.m5_terms.proofs.SiteWorlds.{has-site, each-real}
 use Rattle.m5_terms.specs.declared.types.World.{World}
-use Rattle.m5_terms.specs.declared.types.World.TheVariants.{Any}
 use Rattle.m5_terms.specs.declared.ask.Cause.{Cause}
 use Rattle.m5_terms.specs.declared.ask.Cause.TheVariants.{Spent, Region, Table}
-use Rattle.m5_terms.specs.declared.ask.Act.{Act}
 use Rattle.m5_terms.specs.declared.ask.Act.TheVariants as act
 use Rattle.m5_terms.specs.declared.ask.AskOf.{AskOf}
 use Rattle.m5_terms.specs.declared.ask.AskOf.TheVariants as ask
@@ -22,9 +20,9 @@ use Rattle.m5_script.specs.Scenario as scenario
 use Rattle.m5_script.specs.declared.items.SiteName.{SiteName}
 use Rattle.m5_network.specs.Claim.{chosen_cause, place_of}
 use Rattle.m5_network.specs.Entries.{Deed, read_shown, take_shown, shown, entry_of}
-use Rattle.m5_network.specs.Kinds.{Kind, NetOf, Place, IsAmong, IsAnswered, IsStoppedBy, StepOf, RunOf}
+use Rattle.m5_network.specs.Kinds.{Kind, NetOf, Place, IsAnswered, IsStoppedBy, StepOf, RunOf}
 use Rattle.m5_network.specs.Laws.{StopsApart, places_shown, IsSiteNamed, TurnsAreRuns, RoundsAreRuns}
-use Rattle.m5_network.specs.Plain.{TurnOf, Turns, sites_of, joined, Rounds, PlainOrder}
+use Rattle.m5_network.specs.Plain.{TurnOf, sites_of, joined, PlainOrder}
 use Rattle.m5_network.proofs.Runs.{compose}
 
 abbrev pub place_shown : (K : Kind) → Deed K.Item → Place

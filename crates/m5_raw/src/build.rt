@@ -36,7 +36,13 @@ impl Node {
         }
     }
 
-    pub fn ternary(place: Place, form: TernaryForm, first: NodeBox, second: NodeBox, third: NodeBox) -> Node
+    pub fn ternary(
+        place: Place,
+        form: TernaryForm,
+        first: NodeBox,
+        second: NodeBox,
+        third: NodeBox,
+    ) -> Node
         ensures { result ≡ ternary place form first second third }
     {
         Node {

@@ -1,5 +1,5 @@
 -- Along a run the network stays typed, and no site goes wrong.
-use Rattle.std.proofs.Common.{◌≡◌, ◌≢◌, ◌==◌, ℕ, zero, suc, Bool, true, false, if◌then◌else◌, Option, Some, None, List, [], ◌∷◌, ◌++◌, map, inl, refl, sym, subst, ap, ◌∙◌}
+use Rattle.std.proofs.Common.{◌≡◌, ◌≢◌, ◌==◌, ℕ, Bool, true, false, if◌then◌else◌, Option, Some, None, List, [], ◌∷◌, ◌++◌, map, inl, refl, sym, subst, ap, ◌∙◌}
 use Rattle.std.specs.List.{AllByRecursion as Each}
 use Rattle.std.proofs.lemmas.Bool.{eqb-true, eq-eqb}
 use Rattle.std.proofs.lemmas.List.Elements.{All-from_recursion, recursion_from_All, All-filter, All-map, All-weaker}
@@ -13,13 +13,12 @@ use Rattle.m5_terms.specs.declared.types.Primitive.TheVariants as primitive
 use Rattle.m5_terms.specs.Primitives.{primitive_world}
 use Rattle.m5_typing.specs.Context.{CellTypes, Setting}
 use Rattle.m5_typing.specs.Program.{IsProgram}
-use Rattle.m5_terms.specs.Machine.{goes, asks, wrong, Comes}
+use Rattle.m5_terms.specs.Machine.{asks}
 use Rattle.m5_terms.specs.declared.ask.AskOf.{AskOf}
 use Rattle.m5_terms.specs.declared.ask.AskOf.TheVariants as ask
 use Rattle.m5_terms.specs.declared.ask.AnswerOf.{AnswerOf}
 use Rattle.m5_terms.specs.declared.ask.AnswerOf.TheVariants as answer
 use Rattle.m5_meaning.specs.Site.{Program, Site, Item, thread, raw}
-use Rattle.m5_meaning.specs.Step.{SiteNext, site_next}
 use Rattle.m5_script.specs.Scenario.{Scenario, IsPair, IsEvent}
 use Rattle.m5_script.specs.declared.items.PageEvent.{PageEvent}
 use Rattle.m5_script.specs.declared.items.RawItem.{RawItem}

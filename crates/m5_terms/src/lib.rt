@@ -7,6 +7,7 @@ pub mod build;
 pub mod copy;
 pub mod decimal;
 pub mod form;
+pub mod item;
 pub mod listed;
 pub mod matching;
 pub mod node;

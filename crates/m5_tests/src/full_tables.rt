@@ -42,6 +42,22 @@ const CASES: [(&[u8], u32, u64); 3] = [
     ),
 ];
 
+/// What an ask is to this test.
+#[derive(Clone, Copy)]
+enum Kind {
+    Registers,
+    Fills,
+    Differs,
+}
+
+fn kind_of(query: &SiteQuery) -> Kind {
+    match query {
+        SiteQuery::On(_, _) => Kind::Registers,
+        SiteQuery::Stop(Cause::Table) => Kind::Fills,
+        _ => Kind::Differs,
+    }
+}
+
 /// The site after the board has done what it asked; none where its numbers are large.
 fn answered(alloc: Global, rules: &Rules<'_>, waiting: Waiting) -> Result<Option<Site>, AllocError>
     requires { (t : SiteOf) → resumed rules.now Home waiting.site waiting.wait done ≡ Some t → IsClosedSite t }
@@ -67,17 +83,18 @@ fn filled(alloc: Global, rules: &Rules<'_>, opening: Site) -> Result<Option<(u32
         }
         match advance(alloc, rules, World::Home, site)? {
             Progress::Goes(next) => site = next,
-            Progress::Asks(SiteQuery::On(_, _), waiting) => {
-                registered = registered.saturating_add(1);
-                match answered(alloc, rules, waiting)? {
-                    Some(next) => site = next,
-                    None => return Ok(None),
+            Progress::Asks(query, waiting) => match kind_of(&query) {
+                Kind::Registers => {
+                    registered = registered.saturating_add(1);
+                    match answered(alloc, rules, waiting)? {
+                        Some(next) => site = next,
+                        None => return Ok(None),
+                    }
                 }
-            }
-            Progress::Asks(SiteQuery::Stop(Cause::Table), waiting) => {
-                return Ok(Some((registered, waiting.site.steps())));
-            }
-            _ => return Ok(None),
+                Kind::Fills => return Ok(Some((registered, waiting.site.steps()))),
+                Kind::Differs => return Ok(None),
+            },
+            Progress::Wrong => return Ok(None),
         }
     }
     Ok(None)

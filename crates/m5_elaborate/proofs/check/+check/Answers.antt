@@ -1,9 +1,10 @@
 use Rattle.std.proofs.Common.{◌≡◌, ◌∙◌, rules, arith, ap, sym, subst}
+use Rattle.m5_terms.specs.Table.{entries}
 use Rattle.m5_terms.specs.declared.form.BinaryForm.TheVariants.{Pair}
 use Rattle.m5_raw.specs.Resolved.{binary, place_of}
 use Rattle.m5_terms.specs.Outcome.{found}
 use Rattle.m5_elaborate.specs.Outcome.{IsFault}
-use Rattle.m5_elaborate.specs.Names.{context, entries}
+use Rattle.m5_elaborate.specs.Names.{context}
 use Rattle.m5_elaborate.specs.Checked.{checked, signatures}
 use Rattle.m5_elaborate.proofs.PairSteps.{nests_next, nests_part_fault, nests_fault}
 use Rattle.m5_elaborate.proofs.Tables.{shallow_same, shallow_inside}
@@ -25,7 +26,7 @@ check_ternary-within-requires-2 t c =
 pub check_pairs-returns-in_err-ty-2-clause-ends : goal.check_pairs-returns-in_err-ty-2-clause-ends
 check_pairs-returns-in_err-ty-2-clause-ends t c =
     let F = signatures c.args.known.now in
-    let G = context c.args.depth (entries c.args.names.now.items) in
+    let G = context c.args.depth (entries c.args.names.now) in
     let arm = c.in-Binary-Pair-default-default in
     let q : binary (place_of c.loop-part.rest.now) Pair arm.part.now arm.later.now ≡ c.loop-part.rest.now =
     ap (λ g. binary (place_of c.loop-part.rest.now) g arm.part.now arm.later.now) (sym arm.field-0-is) ∙ arm.ensures.value in
@@ -38,7 +39,7 @@ check_pairs-returns-in_err-ty-2-clause-ends t c =
 pub check_pairs-loop-part-preserved : goal.check_pairs-loop-part-preserved
 check_pairs-loop-part-preserved t c =
     let F = signatures c.args.known.now in
-    let G = context c.args.depth (entries c.args.names.now.items) in
+    let G = context c.args.depth (entries c.args.names.now) in
     let arm = c.in-Binary-Pair-default-default in
     let q : binary (place_of c.loop-part.rest.now) Pair arm.part.now arm.later.now ≡ c.loop-part.rest.now =
     ap (λ g. binary (place_of c.loop-part.rest.now) g arm.part.now arm.later.now) (sym arm.field-0-is) ∙ arm.ensures.value in
@@ -55,7 +56,7 @@ check_pairs-loop-part-preserved t c =
 pub check_pairs-returns-in_err-last-clause-ends : goal.check_pairs-returns-in_err-last-clause-ends
 check_pairs-returns-in_err-last-clause-ends t c =
     let F = signatures c.args.known.now in
-    let G = context c.args.depth (entries c.args.names.now.items) in
+    let G = context c.args.depth (entries c.args.names.now) in
     let f : IsFault (checked F G c.args.world c.loop-part.rest.now) c.in_err-last.field-0.0 =
     subst (λ s. IsFault (checked F (context c.args.depth s) c.args.world c.loop-part.rest.now) c.in_err-last.field-0.0) c.loop-part.invariant.names c.in_err-last.ensures.ends in
     let k = nests_fault (checked F G c.args.world (binary c.args.place Pair c.args.first.now c.args.second.now)) (checked F G c.args.world c.loop-part.rest.now)

@@ -1,8 +1,9 @@
 use Rattle.std.proofs.Common.{◌≡◌, ◌+◌, ◌*◌, ◌≤◌}
+use Rattle.m5_terms.specs.Table.{entries}
 use Rattle.m5_terms.specs.Opened.{viewed_unary}
 use Rattle.m5_terms.specs.declared.form.BinaryForm.TheVariants.{Pair}
 use Rattle.m5_raw.specs.Resolved.{node_count, unary, binary, ternary}
-use Rattle.m5_elaborate.specs.Names.{context, entries}
+use Rattle.m5_elaborate.specs.Names.{context}
 use Rattle.m5_elaborate.specs.Checked.{checked, signatures}
 use Rattle.m5_elaborate.specs.Pairs.{nested}
 use Rattle.m5_elaborate.proofs.check.+check.Given as goal
@@ -27,10 +28,10 @@ decreases-check_ternary l = 4 * node_count (ternary l.place l.form l.first.now l
 
 abbrev pub invariant-check_pairs-loop-part : goal.invariant-check_pairs-loop-part
 invariant-check_pairs-loop-part l = record {
-  names : entries l.names.items ≡ entries l.fn.names.items;
+  names : entries l.names ≡ entries l.fn.names;
   inner : node_count l.rest ≤ node_count l.fn.second;
-  whole : checked (signatures l.fn.known) (context l.fn.depth (entries l.fn.names.items)) l.fn.world (binary l.fn.place Pair l.fn.first l.fn.second)
-      ≡ nested l.waiting.items (checked (signatures l.fn.known) (context l.fn.depth (entries l.fn.names.items)) l.fn.world l.rest);
+  whole : checked (signatures l.fn.known) (context l.fn.depth (entries l.fn.names)) l.fn.world (binary l.fn.place Pair l.fn.first l.fn.second)
+      ≡ nested l.waiting.items (checked (signatures l.fn.known) (context l.fn.depth (entries l.fn.names)) l.fn.world l.rest);
 }
 
 abbrev pub decreases-check_pairs-loop-part : goal.decreases-check_pairs-loop-part

@@ -5,7 +5,7 @@ use Rattle.m5_elaborate.proofs.Programs.{made_typed, untyped_result}
 use Rattle.m5_elaborate.proofs.elaborate.elaborate.Goals as goal
 
 pub check_main-requires : goal.check_main-requires
-check_main-requires c = bare_same _ _ c.in_ok-check_functions.ensures.names (bare_table _ c.new-names.ensures.items)
+check_main-requires c = bare_same _ _ c.in_ok-check_functions.ensures.names (bare_table _ c.make-names.ensures)
 
 pub make-requires : goal.make-requires
 make-requires c =

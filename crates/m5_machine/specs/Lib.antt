@@ -1,0 +1,9 @@
+pub mod Body
+pub mod Blocks
+pub mod Operand
+pub mod Closure
+pub mod Primitive
+pub mod Table
+pub mod Block
+pub mod Run
+pub mod code

@@ -1,0 +1,2 @@
+-- What the machine keeps while it runs.
+pub mod Running

@@ -1,0 +1,9 @@
+pub mod Back
+pub mod More
+pub mod Adding
+pub mod References
+pub mod Reading
+pub mod Keeping
+pub mod Joining
+pub mod Cutting
+pub mod Filling
