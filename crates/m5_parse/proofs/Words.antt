@@ -36,7 +36,7 @@ some_token-of_text : (k : Kind) → IsToken (some_token k).token
 unfolding keywords symbols
 some_token-of_text kind.Name = record { first = refl; all = one_letter; free = refl }
 some_token-of_text kind.Number = lit≤ tt
-some_token-of_text kind.Literal = λ k d h. absurd (omega arith)
+some_token-of_text kind.Literal = refl
 some_token-of_text _ = lit< tt
 
 pub record Word (ss : List Symbol) (s : State) : Type 0 where

@@ -19,6 +19,7 @@ none_that test (p ∷ ps) h = ap (λ b. cond b (Some p) (first_that test ps)) (h
 
 -- a name that is no primitive's declares none
 pub no_primitive : (name : List ℕ) (ty : TypeExpression) (w : World) → ((p : Primitive) → name ≡ primitive_name p → ⊥) → primitive_of (Some name) ty w ≡ None
+unfolding primitive_of
 no_primitive name ty w h =
     none_that (declares (Some name) ty w) primitives
     (λ p. not_both (bytes_eq name (primitive_name p)) (same_type ty (primitive_type p) && same_world w (primitive_world p)) (λ e. h p ((bytes_eq-Decides name (primitive_name p)).0 e)))
@@ -28,6 +29,7 @@ abbrev fits : Primitive → TypeExpression → World → Bool
 fits p ty w = same_type ty (primitive_type p) && same_world w (primitive_world p)
 
 by_name : (p : Primitive) (ty : TypeExpression) (w : World) → primitive_of (Some (primitive_name p)) ty w ≡ cond (fits p ty w) (Some p) None
+unfolding primitive_of
 by_name Say ty w = refl
 by_name _ ty w = refl
 

@@ -30,7 +30,7 @@ abbrev pub first_that : (Primitive → Bool) → List Primitive → Option Primi
 first_that test [] = None
 first_that test (p ∷ ps) = if test p then Some p else first_that test ps
 
-abbrev pub primitive_of : Option (List ℕ) → TypeExpression → World → Option Primitive
+unfoldable pub primitive_of : Option (List ℕ) → TypeExpression → World → Option Primitive
 primitive_of name ty w = first_that (declares name ty w) primitives
 
 -- what is declared outside expressions is declared once

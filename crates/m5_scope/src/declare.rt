@@ -27,7 +27,7 @@ use m5_tree::type_expr::TypeExpr;
 use std::alloc::{AllocError, Global};
 
 /// The primitive with exactly this name, type and world.
-#[tactic(auto, using(crate::proofs::Externs::no_primitive, crate::proofs::Externs::that_primitive))]
+#[tactic(auto, using(crate::proofs::Externs::no_primitive, crate::proofs::Externs::that_primitive), unfolding(crate::specs::Program::primitive_of))]
 fn primitive(
     alloc: Global,
     name: Option<&[u8]>,
