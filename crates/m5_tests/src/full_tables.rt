@@ -50,7 +50,7 @@ enum Kind {
     Differs,
 }
 
-fn kind_of(query: &SiteQuery) -> Kind {
+fn kind_of(query: SiteQuery) -> Kind {
     match query {
         SiteQuery::On(_, _) => Kind::Registers,
         SiteQuery::Stop(Cause::Table) => Kind::Fills,
@@ -83,7 +83,7 @@ fn filled(alloc: Global, rules: &Rules<'_>, opening: Site) -> Result<Option<(u32
         }
         match advance(alloc, rules, World::Home, site)? {
             Progress::Goes(next) => site = next,
-            Progress::Asks(query, waiting) => match kind_of(&query) {
+            Progress::Asks(query, waiting) => match kind_of(query) {
                 Kind::Registers => {
                     registered = registered.saturating_add(1);
                     match answered(alloc, rules, waiting)? {
