@@ -19,9 +19,8 @@ use Rattle.m5_meaning.specs.Parts.{parts, fill}
 use Rattle.m5_meaning.specs.Site.{Program, Thread, Site, Item}
 use Rattle.m5_meaning.specs.Reduction.{Reduced, gives, makes_text, goes_on, makes_cell, loads, stores, leaves, says, shows, sets, writes, gets, reads, handles, watches, reduced}
 use Rattle.m5_meaning.specs.Reduction as reduction
-use Rattle.m5_meaning.specs.Step.{SiteNext, step_weight, is_full, stops_full, atom, loaded, stored, outcome, part_begun, evaluated, returned, focused, after_take, front, site_next}
+use Rattle.m5_meaning.specs.Step.{SiteNext, step_weight, is_full, stops_full, atom, loaded, stored, outcome, part_begun, evaluated, returned, focused, after_take, front, site_next, next_weight}
 use Rattle.m5_script.specs.Scenario.{Scenario}
-use Rattle.m5_network.specs.Run.{next_weight}
 use Rattle.m5_reference.specs.declared.moment.Limits.{Limits}
 use Rattle.m5_network.specs.FirstMoment.{MayStop, IsFree}
 use Rattle.m5_reference.specs.Moments.{HasLimits}
