@@ -1,6 +1,6 @@
 //! The board: the key store and what each session has.
 
-ghost use Rattle.std.specs.Prelude.{◌≡◌, length};
+ghost use Rattle.std.specs.Prelude.{◌≡◌, [], length};
 
 use crate::desk::Desk;
 use m5_keys::keys::Keys;
@@ -32,6 +32,14 @@ pub struct Answered<I> {
 }
 
 impl<I> Board<I> {
+    /// A board without watches, over a key store and what each session has.
+    pub fn without_watches(keys: Keys, desks: Vec<Desk<I>>) -> Board<I>
+        requires { keys.watches ≡ [] }
+        ensures { result ≡ record { pairs = keys.pairs; watches = []; desks = desks.items } }
+    {
+        Board { keys, desks }
+    }
+
     /// How many sessions it has.
     pub fn session_count(&self) -> u64
         ensures { result ≡ length self.now.desks }

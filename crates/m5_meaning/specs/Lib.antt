@@ -4,3 +4,4 @@ pub mod Reduction
 pub mod Site
 pub mod Step
 pub mod Opening
+pub mod Seals

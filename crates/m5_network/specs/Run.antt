@@ -1,12 +1,13 @@
 -- Runs of a program by a list of places, and when a stop is licensed and a run is finished.
-use Rattle.std.specs.Prelude.{◌≢◌, ℕ, ◌+◌, ◌≤◌, Bool, true, false, List, [], Option}
+use Rattle.std.specs.Prelude.{◌≢◌, ℕ, ◌+◌, ◌≤◌, true, List, [], Option}
 use Rattle.m5_terms.specs.Machine.{Comes}
 use Rattle.m5_terms.specs.declared.ask.AskOf.{AskOf}
 use Rattle.m5_terms.specs.declared.ask.AnswerOf.{AnswerOf}
 use Rattle.m5_terms.specs.declared.types.World.{World}
 use Rattle.m5_terms.specs.declared.ask.Cause.{Cause}
 use Rattle.m5_terms.specs.declared.ask.Cause.TheVariants.{Spent, Region, Table}
-use Rattle.m5_meaning.specs.Site.{Program, Site, Item, thread, raw}
+pub use Rattle.m5_meaning.specs.Seals.{has_seal}
+use Rattle.m5_meaning.specs.Site.{Program, Site, Item, raw}
 use Rattle.m5_meaning.specs.Step.{next_weight, site_next}
 use Rattle.m5_meaning.specs.Opening.{opening_site, opening_threads}
 use Rattle.m5_script.specs.Scenario.{Scenario}
@@ -39,11 +40,6 @@ pub record IsLicensed (P : Program) (S : Scenario) (w : World) (cause : Cause) (
   pub comes : Comes (site_next P w) steps from at
   pub has_thread : at.threads ≢ []
   pub reached : Reached P S w cause at
-
--- a source item has the seal exactly where it is a thread
-abbrev pub has_seal : Item → Bool
-has_seal (thread t) = true
-has_seal (raw bytes) = false
 
 abbrev pub halted : Site → Site
 halted x = record x { stopped = true }

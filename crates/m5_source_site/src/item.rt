@@ -1,11 +1,13 @@
 //! What goes along a link between sites of the source.
 
 ghost use Rattle.std.specs.Prelude.{◌≡◌};
+ghost use Rattle.m5_meaning.specs.Seals as seals;
 ghost use Rattle.m5_meaning.specs.Site as item;
 ghost use Rattle.m5_source_site.specs.Items.{item_of};
 
 use crate::thread::SiteThread;
 use m5_terms::ask::{AnswerOf, AskOf};
+use m5_terms::item::Item;
 use m5_terms::text::Text;
 use std::marker::Model;
 
@@ -61,6 +63,23 @@ impl LinkItem {
     {
         let LinkItem { held } = self;
         held
+    }
+}
+
+impl Item for LinkItem {
+    ghost raw = { item.raw };
+
+    ghost has_seal = { λ s i. seals.has_seal i };
+
+    fn of_raw(bytes: Text) -> LinkItem {
+        LinkItem::new(SiteItem::Raw(bytes))
+    }
+
+    fn is_sealed(&self, _session: u32) -> bool {
+        match self.get() {
+            SiteItem::Thread(_) => true,
+            SiteItem::Raw(_) => false,
+        }
     }
 }
 

@@ -1,5 +1,5 @@
 use Rattle.std.proofs.Common.{◌-◌, [], ◌∷◌, ◌++◌, refl}
-use Rattle.m5_network.specs.Board.{Desk, set_at, link, with_link}
+use Rattle.m5_network.specs.Board.{Desk}
 use Rattle.m5_board.proofs.DeskChanges.{changes, stays}
 use Rattle.m5_board.proofs.desks.fire.Goals as goal
 

@@ -2,8 +2,7 @@ use Rattle.std.proofs.Common.{[], ◌∷◌, ◌++◌, refl, ap}
 use Rattle.m5_terms.specs.declared.ask.Act.TheVariants as act
 use Rattle.m5_terms.specs.declared.ask.AskOf.TheVariants as ask
 use Rattle.m5_terms.specs.declared.ask.AnswerOf.TheVariants as answer
-use Rattle.m5_network.specs.Board.{Desk, set_at}
-use Rattle.m5_board.specs.contracts.board.Board.{the_view}
+use Rattle.m5_network.specs.Board.{Desk}
 use Rattle.m5_board.proofs.Answering.{by-desk}
 use Rattle.m5_board.proofs.board.Board.on.Goals as goal
 

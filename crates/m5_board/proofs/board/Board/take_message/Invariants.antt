@@ -1,4 +1,4 @@
-use Rattle.std.proofs.Common.{◌≡◌, length, drop}
+use Rattle.std.proofs.Common.{◌≡◌, drop}
 use Rattle.m5_terms.specs.Worlds.{site_worlds}
 use Rattle.m5_network.specs.Board.{take_at}
 use Rattle.m5_board.specs.Boards.{board_of}
