@@ -1,5 +1,6 @@
 //! Each call that takes memory, with memory to spare, and what no clause spells out.
 
+ghost use Rattle.std.specs.Prelude.{◌≡◌};
 ghost use Rattle.m5_terms.specs.CountsDown.{counts, less_one, sooner, at_zero, no_later, by_two_matches, by_two_is_met, takes};
 
 use crate::ask::{Answer, Ask, Numbers};
