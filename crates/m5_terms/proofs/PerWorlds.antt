@@ -1,7 +1,6 @@
 -- Values for each world.
-use Rattle.std.proofs.Common.{arith, ◌≡◌, ◌≢◌, zero, suc, refl}
+use Rattle.std.proofs.Common.{◌≡◌, ◌≢◌, refl}
 use Rattle.m5_terms.specs.declared.types.World.TheVariants.{Home, Server, Panel, Any}
-use Rattle.m5_terms.specs.Worlds.{IsSiteWorld}
 use Rattle.m5_terms.specs.declared.types.World.{World}
 use Rattle.m5_terms.specs.declared.per_world.PerWorld.{PerWorld}
 use Rattle.m5_terms.specs.PerWorld.{at, with_at, each}
