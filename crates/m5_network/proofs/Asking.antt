@@ -3,7 +3,6 @@ use Rattle.std.proofs.Common.{◌≡◌, ℕ, zero, suc, Bool, true, false, nat_
 use Rattle.std.specs.Prelude.{slice_get}
 use Rattle.m5_terms.specs.Expression.{Expression, leaf, unary}
 use Rattle.m5_terms.specs.declared.types.World.{World}
-use Rattle.m5_terms.specs.declared.types.World.TheVariants.{Any}
 use Rattle.m5_terms.specs.declared.ask.Cause.{Cause}
 use Rattle.m5_terms.specs.declared.ask.Cause.TheVariants.{Table}
 use Rattle.m5_terms.specs.declared.form.LeafForm.TheVariants as leaf_form
@@ -16,7 +15,7 @@ use Rattle.m5_terms.specs.Machine.{asks}
 use Rattle.m5_terms.specs.declared.ask.AskOf.TheVariants as ask
 use Rattle.m5_terms.specs.declared.ask.AnswerOf.{AnswerOf}
 use Rattle.m5_meaning.specs.Parts.{parts, fill}
-use Rattle.m5_meaning.specs.Site.{Program, Thread, Site, Item, raw}
+use Rattle.m5_meaning.specs.Site.{Program, Thread, Site, Item}
 use Rattle.m5_meaning.specs.Reduction.{Reduced, gives, makes_text, goes_on, makes_cell, loads, stores, leaves, says, sets, writes, gets, reads, handles, watches, reduced}
 use Rattle.m5_meaning.specs.Reduction as reduction
 use Rattle.m5_meaning.specs.Step.{SiteNext, is_full, stops_full, atom, loaded, stored, outcome, part_begun, evaluated, returned, focused, after_take, front, site_next}

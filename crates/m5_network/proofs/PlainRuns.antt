@@ -1,16 +1,14 @@
 -- Turns, rounds and the plain order are runs by the places that their deeds show, of any kind of sites whose stops stand apart.
-use Rattle.std.proofs.Common.{◌≡◌, ◌≢◌, inl, inr, ℕ, zero, suc, ◌≤◌, Bool, true, false, Option, None, Some, List, [], ◌∷◌, ◌++◌, map, refl, sym, ap, subst, arith, if◌then◌else◌}
+use Rattle.std.proofs.Common.{◌≡◌, inl, inr, ℕ, zero, suc, ◌≤◌, Bool, true, false, Option, None, Some, List, [], ◌∷◌, ◌++◌, map, refl, sym, ap, subst, arith, if◌then◌else◌}
 use Rattle.std.proofs.lemmas.List.{map-append}
 use Rattle.std.proofs.lemmas.List.Elements.{recursion_from_All}
 use Rattle.std.specs.List.{AllByRecursion as Each}
-use Rattle.m5_terms.specs.Worlds.{site_worlds, IsSiteWorld}
+use Rattle.m5_terms.specs.Worlds.{site_worlds}
 use Rattle.m5_terms.proofs.Lists.{each-map, each-append}
 use Rattle.m5_terms.proofs.SiteWorlds.{real-world, each-real}
 use Rattle.m5_terms.specs.declared.types.World.{World}
-use Rattle.m5_terms.specs.declared.types.World.TheVariants.{Any}
 use Rattle.m5_terms.specs.declared.ask.Cause.{Cause}
 use Rattle.m5_terms.specs.declared.ask.Cause.TheVariants.{Spent, Region, Table}
-use Rattle.m5_terms.specs.declared.ask.Act.{Act}
 use Rattle.m5_terms.specs.declared.ask.Act.TheVariants as act
 use Rattle.m5_terms.specs.declared.ask.AskOf.{AskOf}
 use Rattle.m5_terms.specs.declared.ask.AskOf.TheVariants as ask
@@ -22,13 +20,17 @@ use Rattle.m5_script.specs.Scenario as scenario
 use Rattle.m5_script.specs.declared.items.SiteName.{SiteName}
 use Rattle.m5_network.specs.Claim.{chosen_cause, place_of}
 use Rattle.m5_network.specs.Entries.{Deed, read_shown, take_shown, shown, entry_of}
-use Rattle.m5_network.specs.Kinds.{Kind, NetOf, Place, IsAmong, IsAnswered, IsStoppedBy, StepOf, RunOf}
-use Rattle.m5_network.specs.Laws.{StopsApart, places_shown, IsNamed, TurnsAreRuns, RoundsAreRuns}
-use Rattle.m5_network.specs.Plain.{TurnOf, Turns, sites_of, joined, Rounds, PlainOrder}
+use Rattle.m5_network.specs.Kinds.{Kind, NetOf, Place, IsAnswered, IsStoppedBy, StepOf, RunOf}
+use Rattle.m5_network.specs.Laws.{StopsApart, places_shown, IsSiteNamed, TurnsAreRuns, RoundsAreRuns}
+use Rattle.m5_network.specs.Plain.{TurnOf, sites_of, joined, PlainOrder}
 use Rattle.m5_network.proofs.Runs.{compose}
 
 abbrev pub place_shown : (K : Kind) → Deed K.Item → Place
 place_shown K d = place_of (entry_of (K.has_seal d.session) d)
+
+pub places-are : (K : Kind) (ds : List (Deed K.Item)) → map place_of (map (λ (d : Deed K.Item). entry_of (K.has_seal d.session) d) ds) ≡ places_shown K ds
+places-are K [] = refl
+places-are K (d ∷ ds) = ap (λ ps. place_shown K d ∷ ps) (places-are K ds)
 
 -- what a turn's deed shows
 
@@ -61,16 +63,16 @@ stop-place K h s w Spent x d l e = ap (place_shown K) e
 stop-place K h s w Region x d l e = ap (place_shown K) e
 stop-place K h s w Table x d l e = absurd (h.chosen s w x l)
 
-answer-step : (K : Kind) → StopsApart K → (n : ℕ) (N M : NetOf K) (x : SiteName) (d : Deed K.Item) → IsNamed n x → K.is_stopped (N.site x.session x.world) ≡ false → IsAnswered (K.next x.session x.world) N x.session x.world d M → StepOf K n N (place_shown K d) d M
+answer-step : (K : Kind) → StopsApart K → (n : ℕ) (N M : NetOf K) (x : SiteName) (d : Deed K.Item) → IsSiteNamed n x → K.is_stopped (N.site x.session x.world) ≡ false → IsAnswered (K.next x.session x.world) N x.session x.world d M → StepOf K n N (place_shown K d) d M
 answer-step K h n N M x d i f a = subst (λ p. StepOf K n N p d M) (sym (answer-place K h N M x.session x.world d a)) (record { site = i; runs = f; makes = a })
 
-stop-step : (K : Kind) → StopsApart K → (n : ℕ) (N M : NetOf K) (x : SiteName) (c : Cause) (d : Deed K.Item) → IsNamed n x → K.is_stopped (N.site x.session x.world) ≡ false → IsStoppedBy (K.licensed x.session x.world c) K.halted N x.session x.world c d M → StepOf K n N (place_shown K d) d M
+stop-step : (K : Kind) → StopsApart K → (n : ℕ) (N M : NetOf K) (x : SiteName) (c : Cause) (d : Deed K.Item) → IsSiteNamed n x → K.is_stopped (N.site x.session x.world) ≡ false → IsStoppedBy (K.licensed x.session x.world c) K.halted N x.session x.world c d M → StepOf K n N (place_shown K d) d M
 stop-step K h n N M x c d i f a = subst (λ p. StepOf K n N p d M) (sym (stop-place K h x.session x.world c (N.site x.session x.world) d a.licence a.deed)) (record { site = i; runs = f; makes = a })
 
 -- turns
 
 -- a turn is a run of one deed or none
-pub turn-run : (K : Kind) → StopsApart K → (n : ℕ) (N M : NetOf K) (x : SiteName) (ds : List (Deed K.Item)) → IsNamed n x → TurnOf K N x ds M → RunOf K n N (places_shown K ds) ds M
+pub turn-run : (K : Kind) → StopsApart K → (n : ℕ) (N M : NetOf K) (x : SiteName) (ds : List (Deed K.Item)) → IsSiteNamed n x → TurnOf K N x ds M → RunOf K n N (places_shown K ds) ds M
 turn-run K h n N M x [] i t = t.0
 turn-run K h n N M x (d ∷ []) i t = (M, elim (t.1) [ inl a ↦ answer-step K h n N M x d i t.0 a | inr a ↦ stop-step K h n N M x a.0 d i t.0 a.1 ], refl)
 turn-run K h n N M x (d ∷ e ∷ ds) i t = absurd t
@@ -91,12 +93,12 @@ rounds-run K h n N M xs (round ∷ rounds) i t = joins K n N t.0 M (joined round
 
 -- the sites of a script
 
-script-named : (n : ℕ) (x : SiteName) → scenario.IsSite n x → IsNamed n x
+script-named : (n : ℕ) (x : SiteName) → scenario.IsSite n x → IsSiteNamed n x
 script-named n x h = record { from_one = h.there.0; to_last = h.there.1; world = real-world x.world h.world }
 
 -- the order names sites of the run alone
-pub order-named : (S : Scenario) → IsScript S → Each (IsNamed S.sessions) S.order
-order-named S h = each-map (scenario.IsSite S.sessions) (IsNamed S.sessions) (script-named S.sessions) S.order (recursion_from_All (scenario.IsSite S.sessions) S.order h.items.order)
+pub order-named : (S : Scenario) → IsScript S → Each (IsSiteNamed S.sessions) S.order
+order-named S h = each-map (scenario.IsSite S.sessions) (IsSiteNamed S.sessions) (script-named S.sessions) S.order (recursion_from_All (scenario.IsSite S.sessions) S.order h.items.order)
 
 abbrev site_of : ℕ → World → SiteName
 site_of s w = record { session = s; world = w }
@@ -106,14 +108,14 @@ each-site : (Q : SiteName → Type 0) (s : ℕ) (ws : List World) → Each (λ (
 each-site Q s [] h = tt
 each-site Q s (w ∷ ws) h = (h.0, each-site Q s ws h.1)
 
-first-named : (n m : ℕ) → m ≤ n → Each (IsNamed n) (sites_of m)
+first-named : (n m : ℕ) → m ≤ n → Each (IsSiteNamed n) (sites_of m)
 first-named n zero h = tt
 first-named n (suc m) h =
-    each-append (IsNamed n) (sites_of m) (map (site_of (suc m)) site_worlds) (first-named n m (omega (arith, h)))
-    (each-site (IsNamed n) (suc m) site_worlds (each-real (λ w. IsNamed n (site_of (suc m) w)) (λ w r. record { from_one = omega arith; to_last = h; world = real-world w r })))
+    each-append (IsSiteNamed n) (sites_of m) (map (site_of (suc m)) site_worlds) (first-named n m (omega (arith, h)))
+    (each-site (IsSiteNamed n) (suc m) site_worlds (each-real (λ w. IsSiteNamed n (site_of (suc m) w)) (λ w r. record { from_one = omega arith; to_last = h; world = real-world w r })))
 
 -- a round is of sites of the run alone
-pub round-named : (n : ℕ) → Each (IsNamed n) (sites_of n)
+pub round-named : (n : ℕ) → Each (IsSiteNamed n) (sites_of n)
 round-named n = first-named n n (omega arith)
 
 -- the silent round makes no deed, and the others make the order's

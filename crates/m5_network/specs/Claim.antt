@@ -1,4 +1,4 @@
--- What a history claims of a program and a scenario.
+-- What a history claims of a kind of sites and a scenario.
 use Rattle.std.specs.Prelude.{◌≡◌, ℕ, zero, suc, List, map, Option, Some, None, sum_by, All}
 use Rattle.m5_terms.specs.Primitives.{primitive_world}
 use Rattle.m5_terms.specs.declared.types.World.{World}

@@ -11,13 +11,17 @@ use Rattle.m5_terms.specs.declared.types.World.{World}
 use Rattle.m5_network.specs.Board.{Board, answer_of, at_session, at_world}
 use Rattle.m5_network.specs.Entries.{Deed}
 
+-- what each state does next, by asks and answers over the items
+abbrev pub Acting : Type 0 → Type 0 → Type 0
+Acting State Item = State → Next State (AskOf Item) (AnswerOf Item)
+
 -- a session's site at a world: where it opens, what it does next, which stops its state licenses, whether it is stopped and
 -- what a stop makes of it; and the items of its links: raw bytes as one, and whether one has the seal of a session
 pub record Kind : Type 1 where
   pub Item : Type 0
   pub State : Type 0
   pub opens : ℕ → World → State
-  pub next : ℕ → World → State → Next State (AskOf Item) (AnswerOf Item)
+  pub next : ℕ → World → Acting State Item
   pub licensed : ℕ → World → Cause → State → Type 0
   pub is_stopped : State → Bool
   pub halted : State → State
@@ -48,14 +52,14 @@ pub record IsAmong (sessions s : ℕ) (w : World) : Type 0 where
   pub world : Contains site_worlds w
 
 -- the site comes by local steps to its next ask
-pub record ComesToAsk {State Item : Type 0} (next : State → Next State (AskOf Item) (AnswerOf Item)) (from : State) (query : AskOf Item) (resume : AnswerOf Item → Option State) : Type 0 where
+pub record ComesToAsk {State Item : Type 0} (next : Acting State Item) (from : State) (query : AskOf Item) (resume : AnswerOf Item → Option State) : Type 0 where
   pub steps : ℕ
   pub waiting : State
   pub comes : Comes next steps from waiting
   pub asking : next waiting ≡ asks query resume
 
 -- the site's next ask gets the board's answer, which is something
-pub record IsAnswered {State Item : Type 0} (acts : State → Next State (AskOf Item) (AnswerOf Item)) (N : NetworkOf State Item) (s : ℕ) (w : World) (d : Deed Item) (M : NetworkOf State Item) : Type 0 where
+pub record IsAnswered {State Item : Type 0} (acts : Acting State Item) (N : NetworkOf State Item) (s : ℕ) (w : World) (d : Deed Item) (M : NetworkOf State Item) : Type 0 where
   pub resume : AnswerOf Item → Option State
   pub next : ComesToAsk acts (N.site s w) d.query resume
   pub session : d.session ≡ s
@@ -90,7 +94,7 @@ RunOf K sessions N [] (d ∷ ds) M = ⊥
 RunOf K sessions N (p ∷ ps) [] M = ⊥
 
 -- the site's next ask is a look, and the board has nothing for it
-pub record Rests {State Item : Type 0} (acts : State → Next State (AskOf Item) (AnswerOf Item)) (N : NetworkOf State Item) (s : ℕ) (w : World) : Type 0 where
+pub record Rests {State Item : Type 0} (acts : Acting State Item) (N : NetworkOf State Item) (s : ℕ) (w : World) : Type 0 where
   pub resume : AnswerOf Item → Option State
   pub next : ComesToAsk acts (N.site s w) ask.Take resume
   pub nothing_there : (answer_of N.board s w ask.Take).reply ≡ answer.Nothing

@@ -7,3 +7,4 @@ pub mod Plain
 pub mod Opening
 pub mod Claim
 pub mod Laws
+pub mod Idle

@@ -2,7 +2,7 @@
 use Rattle.std.specs.Prelude.{◌≡◌, ◌≢◌, ◌⊎◌, ℕ, zero, suc, true, false, List, [], ◌∷◌, ◌++◌, map}
 use Rattle.m5_terms.specs.Worlds.{site_worlds}
 use Rattle.m5_terms.specs.declared.ask.Cause.{Cause}
-use Rattle.m5_meaning.specs.Site.{Program, Item}
+use Rattle.m5_meaning.specs.Site.{Program, Site, Item}
 use Rattle.m5_script.specs.Scenario.{Scenario}
 use Rattle.m5_script.specs.declared.items.SiteName.{SiteName}
 use Rattle.m5_network.specs.Entries.{Deed}
@@ -21,11 +21,14 @@ abbrev pub Turn : Program → Scenario → Network → SiteName → List (Deed I
 Turn P S = TurnOf (source P S)
 
 -- which deeds a turn of the site makes from one network to the other
-abbrev pub TurnTaking : Type 0 → Type 0 → Type 1
-TurnTaking State Item = NetworkOf State Item → SiteName → List (Deed Item) → NetworkOf State Item → Type 0
+abbrev pub TurnTakingOf : Type 0 → Type 0 → Type 1
+TurnTakingOf State Item = NetworkOf State Item → SiteName → List (Deed Item) → NetworkOf State Item → Type 0
+
+abbrev pub TurnTaking : Type 1
+TurnTaking = TurnTakingOf Site Item
 
 -- one turn for each site, in this order
-abbrev pub Turns : {State Item : Type 0} → TurnTaking State Item → NetworkOf State Item → List SiteName → List (List (Deed Item)) → NetworkOf State Item → Type 0
+abbrev pub Turns : {State Item : Type 0} → TurnTakingOf State Item → NetworkOf State Item → List SiteName → List (List (Deed Item)) → NetworkOf State Item → Type 0
 Turns T N [] [] M = M ≡ N
 Turns {State} {Item} T N (x ∷ xs) (ds ∷ dss) M = (L : NetworkOf State Item) × T N x ds L × Turns T L xs dss M
 Turns T N [] (ds ∷ dss) M = ⊥
@@ -41,12 +44,12 @@ joined [] = []
 joined (ds ∷ dss) = ds ++ joined dss
 
 -- rounds over these sites that each make some deed
-abbrev pub Rounds : {State Item : Type 0} → TurnTaking State Item → List SiteName → NetworkOf State Item → List (List (List (Deed Item))) → NetworkOf State Item → Type 0
+abbrev pub Rounds : {State Item : Type 0} → TurnTakingOf State Item → List SiteName → NetworkOf State Item → List (List (List (Deed Item))) → NetworkOf State Item → Type 0
 Rounds T xs N [] M = M ≡ N
 Rounds {State} {Item} T xs N (round ∷ rounds) M = (L : NetworkOf State Item) × Turns T N xs round L × (joined round ≢ []) × Rounds T xs L rounds M
 
 -- the turns that the script names, rounds that each make some deed, and a round that makes none
-pub record PlainOrder {State Item : Type 0} (T : TurnTaking State Item) (S : Scenario) (N : NetworkOf State Item) (deeds : List (Deed Item)) (M : NetworkOf State Item) : Type 0 where
+pub record PlainOrder {State Item : Type 0} (T : TurnTakingOf State Item) (S : Scenario) (N : NetworkOf State Item) (deeds : List (Deed Item)) (M : NetworkOf State Item) : Type 0 where
   pub named : List (List (Deed Item))
   pub opened : NetworkOf State Item
   pub order : Turns T N S.order named opened

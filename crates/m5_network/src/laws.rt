@@ -2,6 +2,7 @@
 
 ghost use Rattle.m5_meaning.specs.Site.{Program};
 ghost use Rattle.m5_script.specs.Scenario.{Scenario};
+ghost use Rattle.m5_network.specs.Idle.{idle};
 ghost use Rattle.m5_network.specs.Kinds.{Kind};
 ghost use Rattle.m5_network.specs.Laws.{PrefixIsRun, PlacesDetermine, RunsCompose, StopsApart, TurnsAreRuns, RoundsAreRuns, PlainOrderIsRun};
 ghost use Rattle.m5_network.specs.Run.{source};
@@ -45,3 +46,25 @@ pub fn program_runs_hold()
     ensures stops { (P : Program) (S : Scenario) → StopsApart (source P S) }
     ensures plain { (P : Program) (S : Scenario) → PlainOrderIsRun (source P S) }
 {}
+
+/// Sites that only look for something new.
+pub struct Idle;
+
+impl HasKind for Idle {
+    ghost kind = { idle };
+}
+
+/// All this holds of idle sites, by the laws over any kind.
+pub fn idle_runs_hold()
+    ensures prefix { PrefixIsRun idle }
+    ensures determine { PlacesDetermine idle }
+    ensures compose { RunsCompose idle }
+    ensures turns { TurnsAreRuns idle }
+    ensures plain { PlainOrderIsRun idle }
+{
+    prefix_is_run_holds::<Idle>();
+    places_determine_holds::<Idle>();
+    runs_compose_holds::<Idle>();
+    turns_are_runs_holds::<Idle>();
+    plain_order_is_run_holds::<Idle>();
+}

@@ -7,7 +7,7 @@ use Rattle.m5_reference.specs.declared.moment.Limits.{Limits}
 use Rattle.m5_reference.specs.declared.moment.Moment.{Moment}
 use Rattle.m5_reference.specs.declared.moment.Moment.TheVariants as moment
 use Rattle.m5_reference.specs.declared.moment.Look.TheVariants as look
-use Rattle.m5_reference.specs.FirstMoment.{ComesFree}
+use Rattle.m5_network.specs.FirstMoment.{ComesFree}
 use Rattle.m5_reference.specs.Moments.{HasLimits, IsMomentAt, IsLookAt, IsMoment}
 use Rattle.m5_reference.proofs.Freely.{begin_free, step_free}
 

@@ -7,7 +7,8 @@ use Rattle.m5_terms.specs.TypeExpression.{same_world}
 use Rattle.m5_terms.specs.Worlds.{site_worlds}
 use Rattle.m5_terms.specs.declared.types.World.{World}
 use Rattle.m5_terms.specs.declared.types.World.TheVariants.{Home, Server, Any}
-use Rattle.m5_terms.specs.Asks.{Query, say, set, get_text, on, read, write, watch, send, take, stop}
+use Rattle.m5_terms.specs.declared.ask.AskOf.{AskOf}
+use Rattle.m5_terms.specs.declared.ask.AskOf.TheVariants as ask
 use Rattle.m5_meaning.specs.Site.{Item}
 use Rattle.m5_network.specs.Board.{Board, Desk, Watch, Happening, Trigger, Answered, at_session, at_world, with_link, posted, text_at, text_or_missing, text_or_empty, take_event, take_trigger, take_other, take_from, take_at, answer_of}
 use Rattle.m5_source_site.specs.ClosedSite.{IsClosedItem, IsClosedQuery, IsClosedReply}
@@ -81,14 +82,14 @@ empty-closed : (o : Option (List ℕ)) → IsClosedReply (text_or_empty o)
 empty-closed None = tt
 empty-closed (Some t) = tt
 
-pub answer-closed : (b : Board Item) (s : ℕ) (w : World) (q : Query Item) → IsClosedQuery q → IsClosedBoard b → IsClosedAnswer (answer_of b s w q)
-answer-closed b s w (say x) a h = record { reply_ = tt; board_ = h }
-answer-closed b s w (set e x) a h = record { reply_ = tt; board_ = desk-set b s _ h (h s) }
-answer-closed b s w (get_text e) a h = record { reply_ = empty-closed (text_at (b.desks s).texts e); board_ = h }
-answer-closed b s w (on e n) a h = record { reply_ = tt; board_ = desk-set b s _ h (h s) }
-answer-closed b s w (read k) a h = record { reply_ = missing-closed (text_at b.pairs k); board_ = h }
-answer-closed b s w (write k x) a h = record { reply_ = tt; board_ = posted-closed k x b.watches b.desks h }
-answer-closed b s w (watch k n) a h = record { reply_ = tt; board_ = h }
-answer-closed b s w (send v i) a h = record { reply_ = tt; board_ = desk-set b s _ h (link-set (b.desks s) w v _ (h s) (All-push IsClosedItem ((b.desks s).link w v) i (h s w v) a)) }
-answer-closed b s w take a h = look-closed b s w site_worlds h
-answer-closed b s w (stop c) a h = record { reply_ = tt; board_ = h }
+pub answer-closed : (b : Board Item) (s : ℕ) (w : World) (q : AskOf Item) → IsClosedQuery q → IsClosedBoard b → IsClosedAnswer (answer_of b s w q)
+answer-closed b s w (ask.Say x) a h = record { reply_ = tt; board_ = h }
+answer-closed b s w (ask.Set e x) a h = record { reply_ = tt; board_ = desk-set b s _ h (h s) }
+answer-closed b s w (ask.GetText e) a h = record { reply_ = empty-closed (text_at (b.desks s).texts e); board_ = h }
+answer-closed b s w (ask.On e n) a h = record { reply_ = tt; board_ = desk-set b s _ h (h s) }
+answer-closed b s w (ask.Read k) a h = record { reply_ = missing-closed (text_at b.pairs k); board_ = h }
+answer-closed b s w (ask.Write k x) a h = record { reply_ = tt; board_ = posted-closed k x b.watches b.desks h }
+answer-closed b s w (ask.Watch k n) a h = record { reply_ = tt; board_ = h }
+answer-closed b s w (ask.Send v i) a h = record { reply_ = tt; board_ = desk-set b s _ h (link-set (b.desks s) w v _ (h s) (All-push IsClosedItem ((b.desks s).link w v) i (h s w v) a)) }
+answer-closed b s w ask.Take a h = look-closed b s w site_worlds h
+answer-closed b s w (ask.Stop c) a h = record { reply_ = tt; board_ = h }

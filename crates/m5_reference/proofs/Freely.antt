@@ -5,7 +5,7 @@ use Rattle.m5_terms.specs.Machine.{goes, Comes}
 use Rattle.m5_meaning.specs.Site.{Program, Site}
 use Rattle.m5_meaning.specs.Step.{SiteNext, site_next}
 use Rattle.m5_script.specs.Scenario.{Scenario}
-use Rattle.m5_reference.specs.FirstMoment.{IsFree, ComesFree}
+use Rattle.m5_network.specs.FirstMoment.{IsFree, ComesFree}
 
 pub same-goes : (a b : Site) (n : SiteNext) → n ≡ goes a → n ≡ goes b → a ≡ b
 same-goes a b n e f = let k : goes a ≡ goes b = sym e ∙ f in cc

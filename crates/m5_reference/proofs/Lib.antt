@@ -12,8 +12,6 @@ pub mod Rows
 pub mod SiteMaps
 pub mod TakenTurns
 pub mod FirstTurns
-pub mod PlainRuns
-pub mod Finished
 pub mod Claims
 pub mod NeverStuck
 pub mod TurnLists

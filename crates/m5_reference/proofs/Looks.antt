@@ -12,22 +12,23 @@ use Rattle.m5_terms.specs.declared.thread.Frame.TheVariants.{Part, Return}
 use Rattle.m5_terms.specs.declared.thread.Focus.{Focus}
 use Rattle.m5_terms.specs.declared.thread.Focus.TheVariants.{Eval, Returned}
 use Rattle.m5_terms.specs.Machine.{goes, asks, wrong}
-use Rattle.m5_terms.specs.Asks.{Query, Reply, take}
+use Rattle.m5_terms.specs.declared.ask.AskOf.{AskOf}
+use Rattle.m5_terms.specs.declared.ask.AskOf.TheVariants as ask
+use Rattle.m5_terms.specs.declared.ask.AnswerOf.{AnswerOf}
 use Rattle.m5_meaning.specs.Parts.{parts, fill}
 use Rattle.m5_meaning.specs.Site.{Program, Thread, Site, Item}
 use Rattle.m5_meaning.specs.Reduction.{Reduced, gives, makes_text, goes_on, makes_cell, loads, stores, leaves, says, sets, writes, gets, reads, handles, watches, reduced}
 use Rattle.m5_meaning.specs.Reduction as reduction
-use Rattle.m5_meaning.specs.Step.{SiteNext, step_weight, is_full, stops_full, atom, loaded, stored, outcome, part_begun, evaluated, returned, focused, after_take, front, site_next}
+use Rattle.m5_meaning.specs.Step.{SiteNext, step_weight, is_full, stops_full, atom, loaded, stored, outcome, part_begun, evaluated, returned, focused, after_take, front, site_next, next_weight}
 use Rattle.m5_script.specs.Scenario.{Scenario}
-use Rattle.m5_network.specs.Run.{next_weight}
 use Rattle.m5_reference.specs.declared.moment.Limits.{Limits}
-use Rattle.m5_reference.specs.FirstMoment.{MayStop, IsFree}
+use Rattle.m5_network.specs.FirstMoment.{MayStop, IsFree}
 use Rattle.m5_reference.specs.Moments.{HasLimits}
 
 pub idle : (P : Program) (S : Scenario) (w : World) (x : Site) → x.threads ≡ [] → IsFree P S w x
 idle P S w x e = λ cause m. m.has_thread e
 
-pub idle_asks : (P : Program) (w : World) (x : Site) → x.threads ≡ [] → site_next P w x ≡ asks take (after_take w x)
+pub idle_asks : (P : Program) (w : World) (x : Site) → x.threads ≡ [] → site_next P w x ≡ asks ask.Take (after_take w x)
 idle_asks P w x e = ap (λ (ts : List Thread). front P w x ts) e
 
 pub spent : (P : Program) (S : Scenario) (l : Limits) (w : World) (x : Site) → HasLimits S l → x.threads ≢ [] → l.steps ≤ x.steps → MayStop P S w Spent x × (Spent ≡ Region → MayStop P S w Spent x → ⊥)
@@ -111,7 +112,7 @@ pub counted : (P : Program) (u : World) (s t : Site) → site_next P u s ≡ goe
 counted P u s t e = subst (IsCounted s) e (front-counted P u s s.threads)
 
 -- what the code sees of a state from its threads and numbers
-pub sees_idle : (P : Program) (S : Scenario) (w : World) (x : Site) → x.threads ≡ [] → IsFree P S w x × (site_next P w x ≡ asks take (after_take w x))
+pub sees_idle : (P : Program) (S : Scenario) (w : World) (x : Site) → x.threads ≡ [] → IsFree P S w x × (site_next P w x ≡ asks ask.Take (after_take w x))
 sees_idle P S w x e = (idle P S w x e, idle_asks P w x e)
 
 pub sees_step : (P : Program) (S : Scenario) (l : Limits) (w : World) (x t : Site) → HasLimits S l → x.steps < l.steps → x.weight < l.region → t.weight < l.region → site_next P w x ≡ goes t → IsFree P S w x × (site_next P w x ≡ goes t)
@@ -124,12 +125,12 @@ sees_heavy_step P S l w x t h n a b e =
     let k : next_weight P x (site_next P w x) ≡ t.weight - x.weight = ap (next_weight P x) e in
     crowded P S l w x h n a (omega (arith, k, b))
 
-pub sees_ask : (P : Program) (S : Scenario) (l : Limits) (w : World) (x : Site) (q : Query Item) (r : Reply Item → Option Site) → HasLimits S l → x.steps < l.steps → x.weight + step_weight P 0 < l.region → site_next P w x ≡ asks q r → IsFree P S w x × (site_next P w x ≡ asks q r)
+pub sees_ask : (P : Program) (S : Scenario) (l : Limits) (w : World) (x : Site) (q : AskOf Item) (r : AnswerOf Item → Option Site) → HasLimits S l → x.steps < l.steps → x.weight + step_weight P 0 < l.region → site_next P w x ≡ asks q r → IsFree P S w x × (site_next P w x ≡ asks q r)
 sees_ask P S l w x q r h a b e =
     let k : next_weight P x (site_next P w x) ≡ step_weight P 0 = ap (next_weight P x) e in
     (free P S l w x h a (omega (arith, k, b)), e)
 
-pub sees_heavy_ask : (P : Program) (S : Scenario) (l : Limits) (w : World) (x : Site) (q : Query Item) (r : Reply Item → Option Site) → HasLimits S l → x.threads ≢ [] → x.steps < l.steps → l.region ≤ x.weight + step_weight P 0 → site_next P w x ≡ asks q r → MayStop P S w Region x × (Region ≡ Region → MayStop P S w Spent x → ⊥)
+pub sees_heavy_ask : (P : Program) (S : Scenario) (l : Limits) (w : World) (x : Site) (q : AskOf Item) (r : AnswerOf Item → Option Site) → HasLimits S l → x.threads ≢ [] → x.steps < l.steps → l.region ≤ x.weight + step_weight P 0 → site_next P w x ≡ asks q r → MayStop P S w Region x × (Region ≡ Region → MayStop P S w Spent x → ⊥)
 sees_heavy_ask P S l w x q r h n a b e =
     let k : next_weight P x (site_next P w x) ≡ step_weight P 0 = ap (next_weight P x) e in
     crowded P S l w x h n a (omega (arith, k, b))

@@ -5,7 +5,7 @@ use Rattle.m5_terms.specs.Machine.{goes, Comes}
 use Rattle.m5_meaning.specs.Site.{Program, Site}
 use Rattle.m5_meaning.specs.Step.{site_next}
 use Rattle.m5_script.specs.Scenario.{Scenario}
-use Rattle.m5_reference.specs.FirstMoment.{IsFree, ComesFree}
+use Rattle.m5_network.specs.FirstMoment.{IsFree, ComesFree}
 use Rattle.m5_reference.proofs.Freely.{same-goes}
 
 -- the sum, by recursion on the first number

@@ -10,7 +10,7 @@ use Rattle.m5_meaning.specs.Site.{Program, raw}
 use Rattle.m5_script.specs.Scenario.{Scenario}
 use Rattle.m5_script.specs.declared.items.RawItem.{RawItem}
 use Rattle.m5_network.specs.Opening.{opening_board, opening_site, opening_threads}
-use Rattle.m5_sound.proofs.Worlds.{is-real}
+use Rattle.m5_terms.proofs.SiteWorlds.{is-real}
 use Rattle.m5_source_site.specs.ClosedSite.{IsClosedFrame, IsClosedThread, IsClosedSite, IsClosedProgram, IsClosedItem}
 use Rattle.m5_terms.specs.Closed.{IsClosed}
 use Rattle.m5_board.specs.BoardLists.{board_of}

@@ -3,32 +3,34 @@ use Rattle.std.proofs.Common.{◌≡◌, ℕ, List, [], ◌∷◌, Option, Some,
 use Rattle.m5_terms.specs.Worlds.{site_worlds}
 use Rattle.m5_terms.specs.declared.types.World.{World}
 use Rattle.m5_terms.specs.declared.types.World.TheVariants.{Home, Server, Any}
-use Rattle.m5_terms.specs.Asks.{Query, say, set, get_text, on, read, write, watch, send, take, stop, nothing}
+use Rattle.m5_terms.specs.declared.ask.AskOf.{AskOf}
+use Rattle.m5_terms.specs.declared.ask.AskOf.TheVariants as ask
+use Rattle.m5_terms.specs.declared.ask.AnswerOf.TheVariants as answer
 use Rattle.m5_meaning.specs.Site.{Item}
 use Rattle.m5_network.specs.Board.{Board, Desk, Happening, Trigger, Answered, text_at, text_or_missing, text_or_empty, take_event, take_trigger, take_other, take_from, take_at, answer_of}
 
-not-missing : (o : Option (List ℕ)) (q : Query Item) → text_or_missing {Item = Item} o ≡ nothing → q ≡ take
+not-missing : (o : Option (List ℕ)) (q : AskOf Item) → text_or_missing {Item = Item} o ≡ answer.Nothing → q ≡ ask.Take
 not-missing None q h = cc
 not-missing (Some t) q h = cc
 
-not-empty : (o : Option (List ℕ)) (q : Query Item) → text_or_empty {Item = Item} o ≡ nothing → q ≡ take
+not-empty : (o : Option (List ℕ)) (q : AskOf Item) → text_or_empty {Item = Item} o ≡ answer.Nothing → q ≡ ask.Take
 not-empty None q h = cc
 not-empty (Some t) q h = cc
 
-pub only-look : (b : Board Item) (s : ℕ) (w : World) (q : Query Item) → (answer_of b s w q).reply ≡ nothing → q ≡ take
-only-look b s w take h = refl
-only-look b s w (read k) h = not-missing (text_at b.pairs k) (read k) h
-only-look b s w (get_text e) h = not-empty (text_at (b.desks s).texts e) (get_text e) h
-only-look b s w (say t) h = cc
-only-look b s w (set e t) h = cc
-only-look b s w (on e n) h = cc
-only-look b s w (write k t) h = cc
-only-look b s w (watch k n) h = cc
-only-look b s w (send v i) h = cc
-only-look b s w (stop c) h = cc
+pub only-look : (b : Board Item) (s : ℕ) (w : World) (q : AskOf Item) → (answer_of b s w q).reply ≡ answer.Nothing → q ≡ ask.Take
+only-look b s w ask.Take h = refl
+only-look b s w (ask.Read k) h = not-missing (text_at b.pairs k) (ask.Read k) h
+only-look b s w (ask.GetText e) h = not-empty (text_at (b.desks s).texts e) (ask.GetText e) h
+only-look b s w (ask.Say t) h = cc
+only-look b s w (ask.Set e t) h = cc
+only-look b s w (ask.On e n) h = cc
+only-look b s w (ask.Write k t) h = cc
+only-look b s w (ask.Watch k n) h = cc
+only-look b s w (ask.Send v i) h = cc
+only-look b s w (ask.Stop c) h = cc
 
 abbrev Stays : Board Item → Answered Item → Type 0
-Stays b a = a.reply ≡ nothing → a.board ≡ b
+Stays b a = a.reply ≡ answer.Nothing → a.board ≡ b
 
 event-stays : (b : Board Item) (s : ℕ) (d : Desk Item) (es : List Happening) → Stays b (take_event b s d es)
 event-stays b s d [] h = refl
@@ -51,5 +53,5 @@ look-stays : (b : Board Item) (s : ℕ) (w : World) (ws : List World) → Stays 
 look-stays b s w [] = other-stays b s w
 look-stays b s w (v ∷ vs) = from-stays b s w v ((b.desks s).link v w) (take_at b s w vs) (look-stays b s w vs)
 
-pub stays : (b : Board Item) (s : ℕ) (w : World) → (answer_of b s w take).reply ≡ nothing → (answer_of b s w take).board ≡ b
+pub stays : (b : Board Item) (s : ℕ) (w : World) → (answer_of b s w ask.Take).reply ≡ answer.Nothing → (answer_of b s w ask.Take).board ≡ b
 stays b s w h = look-stays b s w site_worlds h

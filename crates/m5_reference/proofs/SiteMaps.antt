@@ -3,27 +3,15 @@ use Rattle.std.proofs.Common.{◌≡◌, ℕ, ◌==◌, Bool, true, false, if◌
 use Rattle.m5_terms.specs.TypeExpression.{same_world}
 use Rattle.m5_terms.specs.declared.types.World.{World}
 use Rattle.m5_network.specs.Board.{at_session, at_world}
-use Rattle.m5_sound.proofs.Worlds.{same-true}
+use Rattle.m5_terms.proofs.SiteWorlds.{same-true}
+use Rattle.m5_network.proofs.Places.{at-place}
 
 abbrev pub at_place : {A : Type 0} → ℕ → World → A → (ℕ → World → A) → ℕ → World → A
 at_place s w x f = at_session s (at_world w x (f s)) f
 
--- a relation between two such functions holds where it holds at the place and, before, elsewhere
-pub both-at : {A B : Type 0} (Q : ℕ → World → A → B → Type 0) (s : ℕ) (w : World) (x : A) (y : B) (f : ℕ → World → A) (g : ℕ → World → B) →
-    Q s w x y → ((z : ℕ) (v : World) → Q z v (f z v) (g z v)) → (z : ℕ) (v : World) → Q z v (at_place s w x f z v) (at_place s w y g z v)
-both-at {A} {B} Q s w x y f g q h z v = by-session (z == s) refl
-  where
-    by-world : (c : Bool) → same_world v w ≡ c → Q s v (if c then x else f s v) (if c then y else g s v)
-    by-world true e = subst (λ (u : World). Q s u x y) (sym (same-true v w e)) q
-    by-world false e = h s v
-
-    by-session : (b : Bool) → (z == s) ≡ b → Q z v ((if b then at_world w x (f s) else f z) v) ((if b then at_world w y (g s) else g z) v)
-    by-session true e = subst (λ (n : ℕ). Q n v (at_world w x (f s) v) (at_world w y (g s) v)) (sym (eqb-true z s e)) (by-world (same_world v w) refl)
-    by-session false e = h z v
-
 -- a fact of each place
 pub all-at : {A : Type 0} (Q : A → Type 0) (s : ℕ) (w : World) (x : A) (f : ℕ → World → A) → Q x → ((z : ℕ) (v : World) → Q (f z v)) → (z : ℕ) (v : World) → Q (at_place s w x f z v)
-all-at Q s w x f q h z v = both-at (λ n u a b. Q a) s w x x f f q h z v
+all-at Q s w x f q h z v = at-place (λ n u a b. Q a) s w x x f f q h z v
 
 -- what is put where it stands already changes nothing
 pub stays-at : {A : Type 0} (s : ℕ) (w : World) (x : A) (f : ℕ → World → A) → x ≡ f s w → (z : ℕ) (v : World) → at_place s w x f z v ≡ f z v

@@ -14,7 +14,8 @@ use Rattle.m5_reference.specs.Running.{StandsFor, IsReady, TakesTurn}
 use Rattle.m5_reference.specs.SiteRows.{site_at, with_site_at}
 use Rattle.m5_reference.specs.Turning.{MakesDeed, FindsNothing}
 use Rattle.m5_reference.specs.declared.running.Running.{Running}
-use Rattle.m5_reference.proofs.SiteMaps.{both-at, all-at, stays-at, twice-at}
+use Rattle.m5_network.proofs.Places.{at-place}
+use Rattle.m5_reference.proofs.SiteMaps.{all-at, stays-at, twice-at}
 
 abbrev Sites : Type 0
 Sites = ℕ → World → Option Site
@@ -49,7 +50,7 @@ acts P S N x old mid new left shown h i taken put m entries =
     let rows : site_at new.rows.items ≡ with_site_at x.session x.world left (site_at old.rows.items) = put-back x.session x.world None left (site_at old.rows.items) (site_at mid.rows.items) (site_at new.rows.items) taken put in
     let Ahead : ℕ → World → Site → Option Site → Type 0 = λ z v a b. IsSite S z v → IsAhead P S v a b in
     let sites : (z : ℕ) (v : World) → Ahead z v ((with_site x.session x.world m.site (board_of new.board) N).site z v) (with_site_at x.session x.world left (site_at old.rows.items) z v) =
-    both-at Ahead x.session x.world m.site left N.site (site_at old.rows.items) (λ j. m.ahead) h.sites in
+    at-place Ahead x.session x.world m.site left N.site (site_at old.rows.items) (λ j. m.ahead) h.sites in
     record {
       deeds = m.deed ∷ [];
       after = with_site x.session x.world m.site (board_of new.board) N;
@@ -68,7 +69,7 @@ rests P S N x old mid new left h i taken put m entries =
     let Ahead : ℕ → World → Site → Option Site → Type 0 = λ z v a b. IsSite S z v → IsAhead P S v a b in
     let sites : (z : ℕ) (v : World) → Ahead z v (N.site z v) (with_site_at x.session x.world (Some left) (site_at old.rows.items) z v) =
     λ z v. subst (λ (a : Site). Ahead z v a (with_site_at x.session x.world (Some left) (site_at old.rows.items) z v)) (stays-at x.session x.world (N.site x.session x.world) N.site refl z v)
-    (both-at Ahead x.session x.world (N.site x.session x.world) (Some left) N.site (site_at old.rows.items) (λ j. m.ahead) h.sites z v) in
+    (at-place Ahead x.session x.world (N.site x.session x.world) (Some left) N.site (site_at old.rows.items) (λ j. m.ahead) h.sites z v) in
     record {
       deeds = [];
       after = N;

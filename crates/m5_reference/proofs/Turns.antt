@@ -7,7 +7,9 @@ use Rattle.m5_terms.specs.declared.ask.Act.TheVariants as act
 use Rattle.m5_terms.specs.declared.ask.Cause.{Cause}
 use Rattle.m5_terms.specs.declared.ask.Entry.{Entry}
 use Rattle.m5_terms.specs.Machine.{asks}
-use Rattle.m5_terms.specs.Asks.{Query, take, stop, done, nothing}
+use Rattle.m5_terms.specs.declared.ask.AskOf.{AskOf}
+use Rattle.m5_terms.specs.declared.ask.AskOf.TheVariants as ask
+use Rattle.m5_terms.specs.declared.ask.AnswerOf.TheVariants as answer
 use Rattle.m5_meaning.specs.Site.{Program, Site, Item}
 use Rattle.m5_meaning.specs.Step.{site_next}
 use Rattle.m5_script.specs.Scenario.{Scenario}
@@ -17,13 +19,14 @@ use Rattle.m5_source_site.specs.Waits.{resumed}
 use Rattle.m5_source_site.specs.declared.resume.Wait.{Wait}
 use Rattle.m5_board.specs.BoardLists.{BoardLists, board_of}
 use Rattle.m5_reference.specs.Ahead.{IsAhead, kept}
-use Rattle.m5_reference.specs.FirstMoment.{ComesFree, StopsFirst, AsksFree, GoesWrong}
+use Rattle.m5_network.specs.FirstMoment.{ComesFree, StopsFirst, AsksFree, GoesWrong}
 use Rattle.m5_reference.specs.Turning.{MakesDeed, IsStuck, IsTurned, IsAskTurned}
 use Rattle.m5_reference.specs.declared.turn.Turned.{Turned}
 use Rattle.m5_reference.specs.declared.turn.Turned.TheVariants as turned
 use Rattle.m5_reference.proofs.Freely.{begin_free}
 use Rattle.m5_reference.proofs.Onward.{plus, follow}
-use Rattle.m5_reference.proofs.Asking.{looks, same-wait}
+use Rattle.m5_network.proofs.Asking.{looks}
+use Rattle.m5_reference.proofs.Asking.{same-wait}
 use Rattle.m5_reference.proofs.Silence.{only-look, stays}
 
 by-stop : (P : Program) (S : Scenario) (w : World) (t : Site) (b : Bool) → t.stopped ≡ b → IsAhead P S w t (if b then None else Some t)
@@ -37,7 +40,7 @@ pub stops-turned : (P : Program) (S : Scenario) (N : Network) (s : ℕ) (w : Wor
 stops-turned P S N s w x cause b e a h =
     let c : ComesFree P S w (plus a.1.0 h.steps) (N.site s w) h.at = follow P S w a.1.0 h.steps (N.site s w) x h.at a.1.1 h.comes in
     record {
-      deed = record { session = s; world = w; query = stop cause; reply = done };
+      deed = record { session = s; world = w; query = ask.Stop cause; reply = answer.Done };
       site = record (N.site s w) { stopped = true };
       turn = (
         (
@@ -57,7 +60,7 @@ stops-turned P S N s w x cause b e a h =
       entry = refl;
     }
 
-pub asks-turned : (P : Program) (S : Scenario) (N : Network) (s : ℕ) (w : World) (x y : Site) (k : Wait) (q : Query Item) (b : BoardLists) (t : Turned) → IsAhead P S w (N.site s w) (Some x) → AsksFree P S w x q (resumed P w y k) → board_of b ≡ (answer_of N.board s w q).board → IsAskTurned y q (resumed P w y k) (answer_of N.board s w q) t → IsTurned P S N s w b t
+pub asks-turned : (P : Program) (S : Scenario) (N : Network) (s : ℕ) (w : World) (x y : Site) (k : Wait) (q : AskOf Item) (b : BoardLists) (t : Turned) → IsAhead P S w (N.site s w) (Some x) → AsksFree P S w x q (resumed P w y k) → board_of b ≡ (answer_of N.board s w q).board → IsAskTurned y q (resumed P w y k) (answer_of N.board s w q) t → IsTurned P S N s w b t
 asks-turned P S N s w x y k q b (turned.Acts left shown) a f n h =
     let c : ComesFree P S w (plus a.1.0 f.steps) (N.site s w) f.waiting = follow P S w a.1.0 f.steps (N.site s w) x f.waiting a.1.1 f.comes in
     let entry : Act → Entry = λ z. record { session = s; world = w; act = z } in
@@ -86,9 +89,9 @@ asks-turned P S N s w x y k q b (turned.Acts left shown) a f n h =
     }
 asks-turned P S N s w x y k q b (turned.Rests z) a f n h =
     let c : ComesFree P S w (plus a.1.0 f.steps) (N.site s w) f.waiting = follow P S w a.1.0 f.steps (N.site s w) x f.waiting a.1.1 f.comes in
-    let look : q ≡ take = only-look N.board s w q h.0 in
-    let asking : site_next P w f.waiting ≡ asks take (resumed P w y k) = f.asking ∙ ap (λ (p : Query Item). asks p (resumed P w y k)) look in
-    let silent : (answer_of N.board s w take).reply ≡ nothing = subst (λ (p : Query Item). (answer_of N.board s w p).reply ≡ nothing) look h.0 in
+    let look : q ≡ ask.Take = only-look N.board s w q h.0 in
+    let asking : site_next P w f.waiting ≡ asks ask.Take (resumed P w y k) = f.asking ∙ ap (λ (p : AskOf Item). asks p (resumed P w y k)) look in
+    let silent : (answer_of N.board s w ask.Take).reply ≡ answer.Nothing = subst (λ (p : AskOf Item). (answer_of N.board s w p).reply ≡ answer.Nothing) look h.0 in
     let same : z ≡ f.waiting = h.1 ∙ same-wait P w y f.waiting k (looks P w f.waiting (resumed P w y k) asking) in
     record {
       turn = (
@@ -102,7 +105,7 @@ asks-turned P S N s w x y k q b (turned.Rests z) a f n h =
         ),
         inl (inr (resumed P w y k, record { steps = plus a.1.0 f.steps; waiting = f.waiting; comes = c; free = f.free; asking = asking })),
       );
-      same = n ∙ (ap (λ (p : Query Item). (answer_of N.board s w p).board) look ∙ stays N.board s w silent);
+      same = n ∙ (ap (λ (p : AskOf Item). (answer_of N.board s w p).board) look ∙ stays N.board s w silent);
       ahead = (a.0, (plus a.1.0 f.steps, subst (ComesFree P S w (plus a.1.0 f.steps) (N.site s w)) (sym same) c));
     }
 asks-turned P S N s w x y k q b turned.Wrong a f n h =
@@ -114,7 +117,7 @@ wrong-turned P S N s w x a h =
     let c : ComesFree P S w (plus a.1.0 h.steps) (N.site s w) h.at = follow P S w a.1.0 h.steps (N.site s w) x h.at a.1.1 h.comes in
     record { steps = plus a.1.0 h.steps; at = h.at; comes = c.comes; stuck = inl h.stuck }
 
-pub answers : {E : Type 0} (r : Result Turned E) (P : Program) (S : Scenario) (N : Network) (s : ℕ) (w : World) (x y : Site) (k : Wait) (q : Query Item) (old new : BoardLists) → board_of old ≡ N.board → IsAhead P S w (N.site s w) (Some x) → AsksFree P S w x q (resumed P w y k) → IfOk r (λ t. board_of new ≡ (answer_of (board_of old) s w q).board) → IfOk r (IsAskTurned y q (resumed P w y k) (answer_of (board_of old) s w q)) → IfOk r (IsTurned P S N s w new)
+pub answers : {E : Type 0} (r : Result Turned E) (P : Program) (S : Scenario) (N : Network) (s : ℕ) (w : World) (x y : Site) (k : Wait) (q : AskOf Item) (old new : BoardLists) → board_of old ≡ N.board → IsAhead P S w (N.site s w) (Some x) → AsksFree P S w x q (resumed P w y k) → IfOk r (λ t. board_of new ≡ (answer_of (board_of old) s w q).board) → IfOk r (IsAskTurned y q (resumed P w y k) (answer_of (board_of old) s w q)) → IfOk r (IsTurned P S N s w new)
 answers (Ok t) P S N s w x y k q old new e a f n h =
     let Asked : Board Item → Type 0 = λ B. IsAskTurned y q (resumed P w y k) (answer_of B s w q) t in
     asks-turned P S N s w x y k q new t a f (n ∙ ap (λ (B : Board Item). (answer_of B s w q).board) e) (subst Asked e h)

@@ -13,7 +13,7 @@ use Rattle.m5_network.specs.Entries.{entry_of}
 use Rattle.m5_network.specs.Opening.{opening}
 use Rattle.m5_network.specs.Plain.{sites_of, joined}
 use Rattle.m5_network.specs.Run.{Network}
-use Rattle.m5_sound.proofs.Worlds.{is-real}
+use Rattle.m5_terms.proofs.SiteWorlds.{is-real}
 use Rattle.m5_reference.specs.Finishing.{Finishes, OrderEnds, end_of}
 use Rattle.m5_reference.specs.Reference.{IsReferenceRun}
 use Rattle.m5_reference.specs.Running.{IsNamed, TakesTurns, Settles, Strands, RoundsEnd}
@@ -22,21 +22,22 @@ use Rattle.m5_reference.specs.declared.running.Going.TheVariants as going
 use Rattle.m5_reference.specs.declared.running.Running.{Running}
 use Rattle.m5_reference.proofs.Claims.{first-order-claims}
 use Rattle.m5_reference.proofs.NeverStuck.{reached-first, reached-turns, reached-not-stuck}
-use Rattle.m5_reference.proofs.PlainRuns.{IsSiteNamed, order-named, round-named}
+use Rattle.m5_network.specs.Laws.{IsSiteNamed}
+use Rattle.m5_network.proofs.PlainRuns.{order-named, round-named}
 use Rattle.m5_reference.proofs.TurnLists.{made-on, strands-after}
 
 -- the sites that the script names, and all sites, are the run's
-pub order-sites : (S : Scenario) → IsScript S → All (IsSiteNamed S) S.order
-order-sites S h = All-from_recursion (IsSiteNamed S) S.order (order-named S h)
+pub order-sites : (S : Scenario) → IsScript S → All (IsSiteNamed S.sessions) S.order
+order-sites S h = All-from_recursion (IsSiteNamed S.sessions) S.order (order-named S h)
 
-pub round-sites : (S : Scenario) → All (IsSiteNamed S) (sites_of S.sessions)
-round-sites S = All-from_recursion (IsSiteNamed S) (sites_of S.sessions) (round-named S)
+pub round-sites : (S : Scenario) → All (IsSiteNamed S.sessions) (sites_of S.sessions)
+round-sites S = All-from_recursion (IsSiteNamed S.sessions) (sites_of S.sessions) (round-named S.sessions)
 
 -- and they are held
-pub are-held : (S : Scenario) (n : ℕ) (xs : List SiteName) → n ≡ S.sessions → All (IsSiteNamed S) xs → All (IsNamed n) xs
+pub are-held : (S : Scenario) (n : ℕ) (xs : List SiteName) → n ≡ S.sessions → All (IsSiteNamed S.sessions) xs → All (IsNamed n) xs
 are-held S n xs e h =
-    let held : (x : SiteName) → IsSiteNamed S x → IsNamed n x = λ x i. record { from_one = i.from_one; to_last = subst (λ (m : ℕ). x.session ≤ m) (sym e) i.to_last; world = is-real x.world i.world } in
-    All-weaker (IsSiteNamed S) (IsNamed n) held xs h
+    let held : (x : SiteName) → IsSiteNamed S.sessions x → IsNamed n x = λ x i. record { from_one = i.from_one; to_last = subst (λ (m : ℕ). x.session ≤ m) (sym e) i.to_last; world = is-real x.world i.world } in
+    All-weaker (IsSiteNamed S.sessions) (IsNamed n) held xs h
 
 finishes : (P : Program) (S : Scenario) (N : Network) (old mid new : Running) (h : TakesTurns P S N S.order old mid) → Settles P S h.after (sites_of S.sessions) mid new → Finishes P S N old new
 finishes P S N old mid new h k = record {
@@ -69,7 +70,7 @@ ends (Err e) P S N old mid new i h k = tt
 -- a typed program's run never strands
 pub never-strands : (P : Program) (S : Scenario) → IsProgram P → IsScript S → Strands P S (opening P S) → ⊥
 never-strands P S p h k =
-    let reached = reached-turns P S (opening P S) k.xs k.deeds k.at (reached-first P S) (recursion_from_All (IsSiteNamed S) k.xs k.names) k.turns in
+    let reached = reached-turns P S (opening P S) k.xs k.deeds k.at (reached-first P S) (recursion_from_All (IsSiteNamed S.sessions) k.xs k.names) k.turns in
     reached-not-stuck P S k.at k.session k.world p h reached k.site k.stuck
 
 pub is-reference-run : (P : Program) (S : Scenario) (old new : Running) (e : End) → IsProgram P → IsScript S → old.entries ≡ [] → Finishes P S (opening P S) old new → e ≡ end_of new.entries → IsReferenceRun P S (record { entries = new.entries; end = e })

@@ -1,5 +1,4 @@
 pub mod Budget
-pub mod FirstMoment
 pub mod Reference
 pub mod Moments
 pub mod OpeningLists

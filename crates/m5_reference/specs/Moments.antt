@@ -13,7 +13,7 @@ use Rattle.m5_reference.specs.declared.moment.Moment.{Moment}
 use Rattle.m5_reference.specs.declared.moment.Moment.TheVariants as moment
 use Rattle.m5_reference.specs.declared.moment.Look.{Look}
 use Rattle.m5_reference.specs.declared.moment.Look.TheVariants as look
-use Rattle.m5_reference.specs.FirstMoment.{MayStop, IsFree, StopsFirst, AsksFree, GoesWrong}
+use Rattle.m5_network.specs.FirstMoment.{MayStop, IsFree, StopsFirst, AsksFree, GoesWrong}
 
 -- the scenario has these numbers, within which the code counts
 pub record HasLimits (S : Scenario) (l : Limits) : Type 0 where

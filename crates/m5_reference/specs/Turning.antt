@@ -3,7 +3,9 @@ use Rattle.std.specs.Prelude.{◌≡◌, ◌≢◌, ◌⊎◌, ℕ, [], ◌∷�
 use Rattle.m5_terms.specs.declared.types.World.{World}
 use Rattle.m5_terms.specs.declared.ask.Act.{Act}
 use Rattle.m5_terms.specs.Machine.{asks, wrong, Comes}
-use Rattle.m5_terms.specs.Asks.{Query, Reply, nothing}
+use Rattle.m5_terms.specs.declared.ask.AskOf.{AskOf}
+use Rattle.m5_terms.specs.declared.ask.AnswerOf.{AnswerOf}
+use Rattle.m5_terms.specs.declared.ask.AnswerOf.TheVariants as answer
 use Rattle.m5_meaning.specs.Site.{Program, Site, Item}
 use Rattle.m5_meaning.specs.Step.{site_next}
 use Rattle.m5_script.specs.Scenario.{Scenario}
@@ -37,7 +39,7 @@ pub record IsStuck (P : Program) (N : Network) (s : ℕ) (w : World) : Type 0 wh
   pub steps : ℕ
   pub at : Site
   pub comes : Comes (site_next P w) steps (N.site s w) at
-  pub stuck : (site_next P w at ≡ wrong) ⊎ ((q : Query Item) × (resume : Reply Item → Option Site) × (site_next P w at ≡ asks q resume) × ((answer_of N.board s w q).reply ≢ nothing) × (resume (answer_of N.board s w q).reply ≡ None))
+  pub stuck : (site_next P w at ≡ wrong) ⊎ ((q : AskOf Item) × (resume : AnswerOf Item → Option Site) × (site_next P w at ≡ asks q resume) × ((answer_of N.board s w q).reply ≢ answer.Nothing) × (resume (answer_of N.board s w q).reply ≡ None))
 
 abbrev pub IsTurned : Program → Scenario → Network → ℕ → World → BoardLists → Turned → Type 0
 IsTurned P S N s w b (turned.Acts left act) = MakesDeed P S N s w b left act
@@ -45,15 +47,15 @@ IsTurned P S N s w b (turned.Rests site) = FindsNothing P S N s w b site
 IsTurned P S N s w b turned.Wrong = IsStuck P N s w
 
 -- the site's deed by this answer of the board
-pub record IsResumed (q : Query Item) (resume : Reply Item → Option Site) (x : Answered Item) (left : Option Site) (act : Act) : Type 0 where
-  pub told : x.reply ≢ nothing
+pub record IsResumed (q : AskOf Item) (resume : AnswerOf Item → Option Site) (x : Answered Item) (left : Option Site) (act : Act) : Type 0 where
+  pub told : x.reply ≢ answer.Nothing
   pub site : Site
   pub resumed : resume x.reply ≡ Some site
   pub left_is : left ≡ kept site
   pub act_is : act ≡ shown has_seal q x.reply
 
 -- what the answer makes of a site that waits for it
-abbrev pub IsAskTurned : Site → Query Item → (Reply Item → Option Site) → Answered Item → Turned → Type 0
+abbrev pub IsAskTurned : Site → AskOf Item → (AnswerOf Item → Option Site) → Answered Item → Turned → Type 0
 IsAskTurned y q resume x (turned.Acts left act) = IsResumed q resume x left act
-IsAskTurned y q resume x (turned.Rests site) = (x.reply ≡ nothing) × (site ≡ y)
-IsAskTurned y q resume x turned.Wrong = (x.reply ≢ nothing) × (resume x.reply ≡ None)
+IsAskTurned y q resume x (turned.Rests site) = (x.reply ≡ answer.Nothing) × (site ≡ y)
+IsAskTurned y q resume x turned.Wrong = (x.reply ≢ answer.Nothing) × (resume x.reply ≡ None)

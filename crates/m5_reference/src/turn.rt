@@ -2,7 +2,7 @@
 
 ghost use Rattle.std.specs.Prelude.{◌≡◌, ◌≢◌, ◌<◌, ◌^◌, ◌↔◌, length, IfOk, OnOk, IsTrue, Some};
 ghost use Rattle.m5_terms.specs.declared.types.World.TheVariants.{Any};
-ghost use Rattle.m5_terms.specs.Asks as asks;
+ghost use Rattle.m5_terms.specs.declared.ask.AnswerOf.TheVariants as answer;
 ghost use Rattle.m5_script.specs.Scenario.{Scenario};
 ghost use Rattle.m5_network.specs.Board.{answer_of};
 ghost use Rattle.m5_network.specs.Run.{Network};
@@ -48,7 +48,7 @@ fn check_room(site: &Site) -> Result<(), AllocError>
 }
 
 fn is_nothing(reply: &SiteReply) -> bool
-    ensures { IsTrue result ↔ (reply_of reply.now ≡ asks.nothing) }
+    ensures { IsTrue result ↔ (reply_of reply.now ≡ answer.Nothing) }
 {
     matches!(reply, SiteReply::Nothing)
 }

@@ -19,7 +19,7 @@ use Rattle.m5_meaning.specs.Site.{Thread, Site, Item, thread, raw}
 use Rattle.m5_site_sound.specs.Settings.{with_cells, Grows, GrowsAt}
 use Rattle.m5_site_sound.specs.Threads.{Fits, FramesTyped, FocusTyped, ThreadTyped}
 use Rattle.m5_site_sound.specs.Sites.{ValueTyped, CellsTyped, HandlerTyped, SiteTyped, ItemTyped, ReplyTyped}
-use Rattle.m5_terms.proofs.Lists.{each-map, each-append}
+use Rattle.m5_terms.proofs.Lists.{each-map}
 use Rattle.m5_terms.proofs.SiteWorlds.{by-world}
 
 type-stays : (As Bs : List TypeExpression) (n : ℕ) (A : TypeExpression) → type_at As n ≡ Some A → type_at (As ++ Bs) n ≡ Some A

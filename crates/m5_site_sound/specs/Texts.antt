@@ -2,7 +2,6 @@
 use Rattle.std.specs.List.{AllByRecursion as Each}
 use Rattle.m5_terms.specs.Expression.{Expression, leaf, unary, binary, ternary}
 use Rattle.m5_terms.specs.Text.{IsText}
-use Rattle.m5_terms.specs.declared.types.World.{World}
 use Rattle.m5_terms.specs.declared.form.LeafForm.{LeafForm}
 use Rattle.m5_terms.specs.declared.form.LeafForm.TheVariants.{Str}
 use Rattle.m5_terms.specs.declared.thread.Frame.{Frame}

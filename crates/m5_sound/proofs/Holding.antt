@@ -28,7 +28,7 @@ use Rattle.m5_site_sound.proofs.Onward.{SiteComes, comes-typed}
 use Rattle.m5_sound.proofs.Networks.{Asked, next-asked, answer-step, stop-step, opening-is-typed}
 use Rattle.m5_site_sound.proofs.Soundness.{sites-are-sound}
 use Rattle.m5_network.specs.Kinds.{MakesDeed, StepOf, RunOf}
-use Rattle.m5_sound.proofs.Places.{at-place}
+use Rattle.m5_network.proofs.Places.{at-place}
 use Rattle.m5_sound.specs.Numbers.{counts_of, BoardNumbered}
 use Rattle.m5_sound.specs.Laws.{Stops, NumbersStayRight, AnswersAreLawful}
 use Rattle.m5_site_sound.proofs.Handlers.{Registers, CountsHandlers, next-handlers, comes-handlers}

@@ -1,5 +1,5 @@
 -- Along a run the network stays typed, and no site goes wrong.
-use Rattle.std.proofs.Common.{◌≡◌, ◌≢◌, ◌==◌, ℕ, zero, suc, Bool, true, false, if◌then◌else◌, Option, Some, None, List, [], ◌∷◌, ◌++◌, map, inl, refl, sym, subst, ap, ◌∙◌}
+use Rattle.std.proofs.Common.{◌≡◌, ◌≢◌, ◌==◌, ℕ, Bool, true, false, if◌then◌else◌, Option, Some, None, List, [], ◌∷◌, ◌++◌, map, inl, refl, sym, subst, ap, ◌∙◌}
 use Rattle.std.specs.List.{AllByRecursion as Each}
 use Rattle.std.proofs.lemmas.Bool.{eqb-true, eq-eqb}
 use Rattle.std.proofs.lemmas.List.Elements.{All-from_recursion, recursion_from_All, All-filter, All-map, All-weaker}
@@ -13,13 +13,12 @@ use Rattle.m5_terms.specs.declared.types.Primitive.TheVariants as primitive
 use Rattle.m5_terms.specs.Primitives.{primitive_world}
 use Rattle.m5_typing.specs.Context.{CellTypes, Setting}
 use Rattle.m5_typing.specs.Program.{IsProgram}
-use Rattle.m5_terms.specs.Machine.{goes, asks, wrong, Comes}
+use Rattle.m5_terms.specs.Machine.{asks}
 use Rattle.m5_terms.specs.declared.ask.AskOf.{AskOf}
 use Rattle.m5_terms.specs.declared.ask.AskOf.TheVariants as ask
 use Rattle.m5_terms.specs.declared.ask.AnswerOf.{AnswerOf}
 use Rattle.m5_terms.specs.declared.ask.AnswerOf.TheVariants as answer
 use Rattle.m5_meaning.specs.Site.{Program, Site, Item, thread, raw}
-use Rattle.m5_meaning.specs.Step.{SiteNext, site_next}
 use Rattle.m5_script.specs.Scenario.{Scenario, IsPair, IsEvent}
 use Rattle.m5_script.specs.declared.items.PageEvent.{PageEvent}
 use Rattle.m5_script.specs.declared.items.RawItem.{RawItem}
@@ -27,7 +26,7 @@ use Rattle.m5_network.specs.Board.{Board, Event, answer_of, at_session, at_world
 use Rattle.m5_network.specs.Entries.{Deed, shown, read_shown, take_shown, entry_of}
 use Rattle.m5_network.specs.Claim.{has_seal, primitive_of, IsAtItsWorld}
 use Rattle.m5_network.specs.Opening.{opening, opening_site, opening_threads, event_of, raw_items}
-use Rattle.m5_network.specs.Kinds.{NetworkOf, IsStoppedBy, MakesDeed, StepOf, RunOf}
+use Rattle.m5_network.specs.Kinds.{IsStoppedBy, MakesDeed, RunOf}
 use Rattle.m5_network.specs.Run.{Network, Place, NextAsk, Answers, Licence, IsLicensed, halted, source_kind, Run, with_site}
 use Rattle.m5_site_sound.specs.Settings.{setting, Grows, GrowsAt}
 use Rattle.m5_site_sound.specs.Threads.{ThreadTyped}

@@ -15,7 +15,7 @@ use Rattle.m5_network.specs.Board.{Watch, Trigger, Event, Handler, Desk, Board, 
 use Rattle.m5_terms.specs.Answers.{NamesHandlers}
 use Rattle.m5_terms.proofs.Lists.{each-map, each-append}
 use Rattle.m5_sound.proofs.Boards.{at-each}
-use Rattle.m5_sound.proofs.Places.{at-place}
+use Rattle.m5_network.proofs.Places.{at-place}
 use Rattle.m5_sound.specs.Numbers.{Differ, DeskNumbered, BoardNumbered}
 use Rattle.m5_site_sound.proofs.Handlers.{Registers}
 

@@ -20,8 +20,7 @@ use Rattle.m5_network.specs.Opening.{opening}
 use Rattle.m5_network.specs.Board.{answer_of}
 use Rattle.m5_network.specs.Kinds.{RunOf}
 use Rattle.m5_network.specs.Run.{Network, Place, IsSite, NextAsk, Licence, IsLicensed, source_kind, IsAtRest, Step, Run}
-use Rattle.m5_site_sound.specs.Settings.{setting, Grows}
-use Rattle.m5_site_sound.specs.Sites.{SiteTyped, NextTyped}
+use Rattle.m5_site_sound.specs.Settings.{Grows}
 use Rattle.m5_sound.specs.Networks.{NetworkTyped, ComesTo, moved}
 use Rattle.m5_site_sound.specs.SourceMachine.{IsLawful, source_machine}
 use Rattle.m5_sound.specs.Numbers.{BoardNumbered, counts_of}

@@ -62,8 +62,18 @@ pub fn answers_are_lawful_holds<C: StopCondition>()
     ensures { AnswersAreLawful C.licensed }
 {}
 
+/// The stops that the script's numbers license.
+pub struct OwnStops;
+
+impl StopCondition for OwnStops {
+    ghost licensed = { own_stops };
+}
+
 /// So it is with the stops that the script's numbers license.
 pub fn own_stops_keep_numbers_holds()
     ensures numbers { NumbersStayRight own_stops }
     ensures answers { AnswersAreLawful own_stops }
-{}
+{
+    numbers_stay_right_holds::<OwnStops>();
+    answers_are_lawful_holds::<OwnStops>();
+}

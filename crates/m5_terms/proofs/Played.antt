@@ -1,7 +1,7 @@
 -- What matches plays along with its input, whatever lawful answers that gets; and fully, where the input is sound.
-use Rattle.std.proofs.Common.{◌⊎◌, inl, inr, ⊎_elim, List, [], ◌∷◌, Option, refl, subst}
+use Rattle.std.proofs.Common.{inl, inr, ⊎_elim, List, [], ◌∷◌, Option, refl, subst}
 use Rattle.m5_terms.specs.Machine.{Machine, Exchange, GoesWrong, IsSound}
-use Rattle.m5_terms.specs.Matching.{Reading, AsksAlike, Matches, Moments, Meeting, MeetsAt, AreMet}
+use Rattle.m5_terms.specs.Matching.{Reading, AsksAlike, Matches, Moments, Meeting, AreMet}
 use Rattle.m5_terms.specs.Playing.{AsksToo, Acts, AnswersRead, IsFollowed, Plays, PlaysAlways, IsFollowedFully, PlaysFully, PlaysAlwaysFully}
 use Rattle.m5_terms.proofs.Matched.{wrong-too, asked, met-later}
 

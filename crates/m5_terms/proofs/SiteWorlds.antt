@@ -1,5 +1,5 @@
 -- Tests of worlds, and the worlds that have sites.
-use Rattle.std.proofs.Common.{◌≡◌, ◌≢◌, zero, suc, Bool, true, false, List, [], ◌∷◌, refl, ◌∙◌, arith}
+use Rattle.std.proofs.Common.{◌≡◌, ◌≢◌, zero, suc, Bool, true, false, refl, ◌∙◌, arith}
 use Rattle.std.specs.List.{AllByRecursion as Each}
 use Rattle.m5_terms.specs.TypeExpression.{same_world}
 use Rattle.m5_terms.specs.Worlds.{site_worlds, IsSiteWorld}

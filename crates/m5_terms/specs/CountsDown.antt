@@ -3,6 +3,8 @@ use Rattle.std.proofs.Common.{◌≡◌, ◌≤◌, ◌==◌, ℕ, zero, suc, So
 use Rattle.std.proofs.Math.Nat.{le-suc, le_trans, suc-le-suc_iff}
 use Rattle.m5_terms.specs.Machine.{Next, goes, asks, wrong, Machine}
 use Rattle.m5_terms.specs.Matching.{Reading, Reaches, AsksAlike, Matches, Moments, Meeting, AreMet}
+use Rattle.m5_terms.specs.Related.{Asking}
+use Rattle.m5_terms.specs.declared.ask.AskOf.TheVariants as ask
 
 -- how far it is to zero, with the steps so far; at zero it asks from where to count next
 abbrev pub counted : (ℕ → ℕ) → ℕ → ℕ → Next (ℕ × ℕ) (Unit {0}) ℕ
@@ -15,6 +17,10 @@ counts f = record { State = ℕ × ℕ; Ask = Unit {0}; Answer = ℕ; next = λ 
 abbrev pub less_one : ℕ → ℕ
 less_one zero = zero
 less_one (suc n) = n
+
+-- a site that takes whatever comes
+abbrev pub takes : Asking
+takes = record { Item = ℕ; State = ℕ; next = λ n. asks ask.Take (λ r. Some (suc n)); lawful = λ n r. Unit {0} }
 
 -- as far from zero, after at most as many steps
 abbrev pub sooner : (f g : ℕ → ℕ) → Reading (counts f) (counts g)

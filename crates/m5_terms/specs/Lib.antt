@@ -19,4 +19,5 @@ pub mod Matching
 pub mod Playing
 pub mod Related
 pub mod Answers
+pub mod Laws
 pub mod CountsDown

@@ -1,5 +1,7 @@
--- When asks and answers are read back to others, by what their items are read back to.
+-- When asks and answers are read back to others, by what their items are read back to; and passes over sites of such asks.
 use Rattle.std.specs.Prelude.{◌≡◌}
+use Rattle.m5_terms.specs.Machine.{Next, Machine}
+use Rattle.m5_terms.specs.Matching.{Reading}
 use Rattle.m5_terms.specs.declared.ask.AskOf.{AskOf}
 use Rattle.m5_terms.specs.declared.ask.AskOf.TheVariants as ask
 use Rattle.m5_terms.specs.declared.ask.AnswerOf.{AnswerOf}
@@ -32,3 +34,21 @@ AnswerReads I answer.Nothing r = r ≡ answer.Nothing
 -- by one item between
 abbrev pub through : {A B C : Type 0} → (World → B → A → Type 0) → (World → C → B → Type 0) → World → C → A → Type 0
 through {A} {B} {C} I J w c a = (b : B) × J w c b × I w b a
+
+-- what asks and is answered by items
+pub record Asking : Type 1 where
+  pub Item : Type 0
+  pub State : Type 0
+  pub next : State → Next State (AskOf Item) (AnswerOf Item)
+  pub lawful : State → AnswerOf Item → Type 0
+
+abbrev pub asking_machine : Asking → Machine
+asking_machine A = record { State = A.State; Ask = AskOf A.Item; Answer = AnswerOf A.Item; next = A.next; lawful = A.lawful }
+
+-- at the world w, by what states and items are read back to
+abbrev pub reads_items : (S T : Asking) → (T.State → S.State → Type 0) → (World → T.Item → S.Item → Type 0) → World → Reading (asking_machine S) (asking_machine T)
+reads_items S T Q I w = record { state = Q; ask = AskReads I; answer = AnswerReads (I w) }
+
+-- by the states between
+abbrev pub state_through : {A B C : Type 0} → (B → A → Type 0) → (C → B → Type 0) → C → A → Type 0
+state_through {A} {B} {C} Q R c a = (b : B) × R c b × Q b a

@@ -1,7 +1,6 @@
 //! Each call that takes memory, with memory to spare, and what no clause spells out.
 
-ghost use Rattle.m5_terms.specs.Keeping.{AtLeast};
-ghost use Rattle.m5_terms.specs.CountsDown.{counts, less_one, sooner, at_zero, no_later, by_two_matches, by_two_is_met};
+ghost use Rattle.m5_terms.specs.CountsDown.{counts, less_one, sooner, at_zero, no_later, by_two_matches, by_two_is_met, takes};
 
 use crate::ask::{Answer, Ask, Numbers};
 use crate::form::{BinaryForm, LeafForm, UnaryForm};
@@ -130,9 +129,26 @@ impl matching::TwoPasses for ByTwo {
     ghost met_under = { no_later less_one less_one };
 }
 
+impl matching::TwoItemPasses for ByTwo {
+    ghost first = { takes };
+
+    ghost second = { takes };
+
+    ghost third = { takes };
+
+    ghost over = { λ n m. n ≡ m };
+
+    ghost under = { λ n m. n ≡ m };
+
+    ghost over_items = { λ w i j. i ≡ j };
+
+    ghost under_items = { λ w i j. i ≡ j };
+}
+
 #[test]
 fn counting_by_two_plays_along(_rt: HostRuntime) {
     matching::matching_plays_holds::<ByTwo>();
     matching::sound_input_is_played_holds::<ByTwo>();
     matching::two_passes_match_holds::<ByTwo>();
+    matching::item_passes_match_holds::<ByTwo>();
 }
