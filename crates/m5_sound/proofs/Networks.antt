@@ -26,7 +26,7 @@ use Rattle.m5_network.specs.Board.{Board, Event, answer_of, at_session, at_world
 use Rattle.m5_network.specs.Entries.{Deed, shown, read_shown, take_shown, entry_of}
 use Rattle.m5_network.specs.Claim.{has_seal, primitive_of, IsAtItsWorld}
 use Rattle.m5_network.specs.Opening.{opening, opening_site, opening_threads, event_of, raw_items}
-use Rattle.m5_network.specs.Kinds.{NetworkOf, IsStoppedBy, MakesDeed, StepOf, RunOf}
+use Rattle.m5_network.specs.Kinds.{IsStoppedBy, MakesDeed, RunOf}
 use Rattle.m5_network.specs.Run.{Network, Place, NextAsk, Answers, Licence, IsLicensed, halted, source_kind, Run, with_site}
 use Rattle.m5_site_sound.specs.Settings.{setting, Grows, GrowsAt}
 use Rattle.m5_site_sound.specs.Threads.{ThreadTyped}
