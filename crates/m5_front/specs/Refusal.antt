@@ -46,16 +46,16 @@ HaveFault listing BadExtern at = HasScopeFault listing (scope.BadExtern at)
 HaveFault listing (Types kind) at = HasTypeFault listing (types.Refused kind at)
 
 -- the text has tokens, and these have the fault
-pub record HasLaterFault (text : List ℕ) (fault : Fault) (at : Place) : Type 0 where
+pub record HasLaterFault (text : List ℕ) (kind : Fault) (at : Place) : Type 0 where
   pub listing : Listing
   pub tokens : lexed text ≡ Ok listing
-  pub later : HaveFault listing fault at
+  pub later : HaveFault listing kind at
 
 -- what is wrong with a text: its first bad byte or number, else what is wrong with its tokens
 abbrev pub HasFault : List ℕ → Fault → Place → Type 0
 HasFault text Byte at = lexed text ≡ Err (bad_byte at)
 HasFault text Number at = lexed text ≡ Err (bad_number at)
-HasFault text fault at = HasLaterFault text fault at
+HasFault text kind at = HasLaterFault text kind at
 
 -- a refusal of tokens has its cause; want of memory may come at any time
 abbrev pub HaveCause : Listing → FrontEnd → Type 0

@@ -1,3 +1,5 @@
+mod Eachs
+mod Stored
 pub mod Freely
 pub mod Looks
 pub mod Arriving

@@ -1,33 +1,33 @@
 -- The code's opening is the definition's.
 use Rattle.std.proofs.Common.{◌≡◌, ◌≢◌, ◌⊎◌, inl, inr, ℕ, zero, suc, ◌+◌, ◌<◌, ◌≤◌, ◌==◌, ◌&&◌, Bool, false, List, [], ◌∷◌, ◌++◌, map, length, get_or, take, Some, refl, sym, ap, subst, ◌∙◌, arith}
 use Rattle.std.specs.Prelude.{filter, slice_get, All}
-use Rattle.std.proofs.Math.Bool.{and-false}
 use Rattle.std.proofs.lemmas.Bool.{ne_eqb}
 use Rattle.std.proofs.lemmas.List.{map-append, take_more, length-append}
 use Rattle.std.proofs.lemmas.List.Elements.{All-head, All-tail, filter-append}
 use Rattle.std.proofs.lemmas.Option.{slice_get_past}
 use Rattle.m5_terms.specs.TypeExpression.{same_world}
 use Rattle.m5_terms.specs.declared.types.World.{World}
-use Rattle.m5_terms.specs.declared.types.World.TheVariants.{Home, Server, Any}
 use Rattle.m5_meaning.specs.Site.{Item, raw}
 use Rattle.m5_script.specs.Scenario.{Scenario, IsThere, IsEvent, IsRaw, IsScript}
 use Rattle.m5_script.specs.declared.items.TextPair.{TextPair}
 use Rattle.m5_script.specs.declared.items.PageEvent.{PageEvent}
 use Rattle.m5_script.specs.declared.items.RawItem.{RawItem}
-use Rattle.m5_network.specs.Board.{Desk, Happening}
-use Rattle.m5_network.specs.Opening.{happening, raw_from, raw_items, opening_desk, opening_board}
-use Rattle.m5_board.specs.BoardLists.{Links, DeskLists, BoardLists, link_of, desk_of, empty_desk, desk_or_empty, desk_at, board_of}
-use Rattle.m5_reference.specs.OpeningLists.{session_events, raw_links, joined_links, desk_opened, desks_opened}
+use Rattle.m5_network.specs.Board.{Desk, Event}
+use Rattle.m5_network.specs.Opening.{event_of, raw_from, raw_items, opening_desk, opening_board}
+use Rattle.m5_terms.specs.declared.per_world.PerWorld.{PerWorld}
+use Rattle.m5_terms.specs.PerWorld.{each}
+use Rattle.m5_board.specs.Boards.{BoardLists, empty_desk, desk_or_empty, desk_at, board_of}
+use Rattle.m5_reference.specs.OpeningLists.{session_events, raw_links, desks_opened}
 
 events-more : (es fs : List PageEvent) (s : ℕ) → session_events (es ++ fs) s ≡ session_events es s ++ session_events fs s
 events-more es fs s =
     let p : PageEvent → Bool = λ e. e.session == s in
-    ap (map happening) (filter-append p es fs) ∙ map-append happening (filter p es) (filter p fs)
+    ap (map event_of) (filter-append p es fs) ∙ map-append event_of (filter p es) (filter p fs)
 
-pub events-next : (es : List PageEvent) (i : ℕ) (e : PageEvent) (s : ℕ) (old new : List Happening) → i < length es → e ≡ get_or es i e → old ≡ session_events (take i es) s → new ≡ old ++ session_events (e ∷ []) s → new ≡ session_events (take (i + 1) es) s
+pub events-next : (es : List PageEvent) (i : ℕ) (e : PageEvent) (s : ℕ) (old new : List Event) → i < length es → e ≡ get_or es i e → old ≡ session_events (take i es) s → new ≡ old ++ session_events (e ∷ []) s → new ≡ session_events (take (i + 1) es) s
 events-next es i e s old new l q f g =
     let split : take (i + 1) es ≡ take i es ++ e ∷ [] = take_more es i e l ∙ ap (λ (x : PageEvent). take i es ++ x ∷ []) (sym q) in
-    g ∙ (ap (λ (xs : List Happening). xs ++ session_events (e ∷ []) s) f ∙ sym (ap (λ (xs : List PageEvent). session_events xs s) split ∙ events-more (take i es) (e ∷ []) s))
+    g ∙ (ap (λ (xs : List Event). xs ++ session_events (e ∷ []) s) f ∙ sym (ap (λ (xs : List PageEvent). session_events xs s) split ∙ events-more (take i es) (e ∷ []) s))
 
 abbrev pub lies : ℕ → World → World → RawItem → Bool
 lies s v w r = (r.session == s) && (same_world r.world w && same_world v (raw_from w))
@@ -37,13 +37,10 @@ raws-more s v w rs qs =
     let f : RawItem → Item = λ r. raw r.bytes in
     ap (map f) (filter-append (lies s v w) rs qs) ∙ map-append f (filter (lies s v w) rs) (filter (lies s v w) qs)
 
-links-more : (rs qs : List RawItem) (s : ℕ) (v : World) → raw_links (rs ++ qs) s v ≡ joined_links (raw_links rs s v) (raw_links qs s v)
-links-more rs qs s v = λ i. record { home = raws-more s v Home rs qs i; server = raws-more s v Server rs qs i; any = raws-more s v Any rs qs i }
-
-pub links-next : (rs : List RawItem) (i : ℕ) (r : RawItem) (s : ℕ) (v : World) (old new : Links) → i < length rs → r ≡ get_or rs i r → old ≡ raw_links (take i rs) s v → new ≡ joined_links old (raw_links (r ∷ []) s v) → new ≡ raw_links (take (i + 1) rs) s v
-links-next rs i r s v old new l q f g =
+pub link-next : (rs : List RawItem) (i : ℕ) (r : RawItem) (s : ℕ) (v w : World) (old new : List Item) → i < length rs → r ≡ get_or rs i r → old ≡ raw_items s v w (take i rs) → new ≡ old ++ raw_items s v w (r ∷ []) → new ≡ raw_items s v w (take (i + 1) rs)
+link-next rs i r s v w old new l q f g =
     let split : take (i + 1) rs ≡ take i rs ++ r ∷ [] = take_more rs i r l ∙ ap (λ (x : RawItem). take i rs ++ x ∷ []) (sym q) in
-    g ∙ (ap (λ (ls : Links). joined_links ls (raw_links (r ∷ []) s v)) f ∙ sym (ap (λ (xs : List RawItem). raw_links xs s v) split ∙ links-more (take i rs) (r ∷ []) s v))
+    g ∙ (ap (λ (is : List Item). is ++ raw_items s v w (r ∷ [])) f ∙ sym (ap (λ (xs : List RawItem). raw_items s v w xs) split ∙ raws-more s v w (take i rs) (r ∷ [])))
 
 filter-none : {X : Type 0} (p : X → Bool) (xs : List X) → All (λ (x : X). p x ≡ false) xs → filter p xs ≡ []
 filter-none p [] h = refl
@@ -52,31 +49,13 @@ filter-none {X} p (x ∷ xs) h =
     let e : p x ≡ false = All-head P x xs h in
     rw e (filter-none p xs (All-tail P x xs h))
 
-filter-never : {X : Type 0} (p : X → Bool) (xs : List X) → ((x : X) → p x ≡ false) → filter p xs ≡ []
-filter-never p [] h = refl
-filter-never p (x ∷ xs) h = rw (h x) (filter-never p xs h)
-
-from-any : (w : World) → same_world Any (raw_from w) ≡ false
-from-any Home = refl
-from-any Server = refl
-from-any Any = refl
-
-none-from-any : (s : ℕ) (w : World) (rs : List RawItem) → raw_items s Any w rs ≡ []
-none-from-any s w rs =
-    let never : (r : RawItem) → lies s Any w r ≡ false = λ r. rw (from-any w) (ap (λ (b : Bool). (r.session == s) && b) (and-false (same_world r.world w)) ∙ and-false (r.session == s)) in
-    ap (map (λ (r : RawItem). raw r.bytes)) (filter-never (lies s Any w) rs never)
-
-opened-link : (S : Scenario) (s : ℕ) (v w : World) → link_of (desk_opened S s) v w ≡ raw_items s v w S.raws
-opened-link S s Home Home = refl
-opened-link S s Home Server = refl
-opened-link S s Home Any = refl
-opened-link S s Server Home = refl
-opened-link S s Server Server = refl
-opened-link S s Server Any = refl
-opened-link S s Any w = sym (none-from-any s w S.raws)
-
-desk-opened : (S : Scenario) (s : ℕ) → desk_of (desk_opened S s) ≡ opening_desk S s
-desk-opened S s = ap (λ (f : World → World → List Item). record (opening_desk S s) { link = f }) (λ i. λ v. λ w. opened-link S s v w i)
+-- a desk with the session's events and raw items
+pub desk-opens : (S T : Scenario) (s : ℕ) (d : Desk Item) (left : List Event) (links : PerWorld (PerWorld (List Item))) (es : List PageEvent) (rs : List RawItem) → T ≡ S → es ≡ T.events → rs ≡ T.raws
+    → left ≡ session_events es s → links ≡ each (raw_links rs s) → d ≡ record { texts = []; handlers = []; triggers = []; events = left; links = links } → d ≡ opening_desk S s
+desk-opens S T s d left links es rs q a b f g h =
+    let events : left ≡ session_events S.events s = f ∙ ap (λ (xs : List PageEvent). session_events xs s) (a ∙ ap (λ (Z : Scenario). Z.events) q) in
+    let raws : links ≡ each (raw_links S.raws s) = g ∙ ap (λ (xs : List RawItem). each (raw_links xs s)) (b ∙ ap (λ (Z : Scenario). Z.raws) q) in
+    h ∙ (λ i. record { texts = []; handlers = []; triggers = []; events = events i; links = raws i })
 
 -- no session has the number
 abbrev pub IsOutside : Scenario → ℕ → Type 0
@@ -102,7 +81,7 @@ outside S s h o = λ i. record {
   handlers = [];
   triggers = [];
   events = sym (events-outside S.sessions s S.events o h.items.events) i;
-  link = λ v w. sym (raws-outside S.sessions s v w S.raws o h.items.raws) i;
+  links = each (λ v. each (λ w. sym (raws-outside S.sessions s v w S.raws o h.items.raws) i));
 }
 
 get-before : {X : Type 0} (xs : List X) (y : X) (k : ℕ) → k < length xs → slice_get (xs ++ y ∷ []) k ≡ slice_get xs k
@@ -116,18 +95,18 @@ get-last (x ∷ xs) y = get-last xs y
 
 desks-count : (S : Scenario) (n : ℕ) → length (desks_opened S n) ≡ n
 desks-count S zero = refl
-desks-count S (suc n) = length-append (desks_opened S n) (desk_opened S (suc n) ∷ []) ∙ (let e : length (desks_opened S n) ≡ n = desks-count S n in omega (arith, e))
+desks-count S (suc n) = length-append (desks_opened S n) (opening_desk S (suc n) ∷ []) ∙ (let e : length (desks_opened S n) ≡ n = desks-count S n in omega (arith, e))
 
 at-or-before : (k n : ℕ) → k < suc n → (k < n) ⊎ (k ≡ n)
 at-or-before k n h = grind arith
 
-desk-there : (S : Scenario) (n k : ℕ) → k < n → slice_get (desks_opened S n) k ≡ Some (desk_opened S (suc k))
+desk-there : (S : Scenario) (n k : ℕ) → k < n → slice_get (desks_opened S n) k ≡ Some (opening_desk S (suc k))
 desk-there S zero k h = absurd (omega (arith, h))
 desk-there S (suc n) k h =
     let c : length (desks_opened S n) ≡ n = desks-count S n in
     elim (at-or-before k n h) [
-      | inl l ↦ get-before (desks_opened S n) (desk_opened S (suc n)) k (omega (arith, c, l)) ∙ desk-there S n k l
-      | inr e ↦ rw e (subst (λ (m : ℕ). slice_get (desks_opened S n ++ desk_opened S (suc n) ∷ []) m ≡ Some (desk_opened S (suc n))) c (get-last (desks_opened S n) (desk_opened S (suc n))))
+      | inl l ↦ get-before (desks_opened S n) (opening_desk S (suc n)) k (omega (arith, c, l)) ∙ desk-there S n k l
+      | inr e ↦ rw e (subst (λ (m : ℕ). slice_get (desks_opened S n ++ opening_desk S (suc n) ∷ []) m ≡ Some (opening_desk S (suc n))) c (get-last (desks_opened S n) (opening_desk S (suc n))))
     ]
 
 within-or-past : (k n : ℕ) → (k < n) ⊎ (n ≤ k)
@@ -136,7 +115,7 @@ within-or-past k n = grind arith
 desk-at : (S : Scenario) → IsScript S → (s : ℕ) → desk_at (desks_opened S S.sessions) s ≡ opening_desk S s
 desk-at S h zero = outside S zero h (λ m t e. omega (arith, t.0, e))
 desk-at S h (suc k) = elim (within-or-past k S.sessions) [
-  | inl l ↦ ap desk_or_empty (desk-there S S.sessions k l) ∙ desk-opened S (suc k)
+  | inl l ↦ ap desk_or_empty (desk-there S S.sessions k l)
   | inr l ↦
       let c : length (desks_opened S S.sessions) ≡ S.sessions = desks-count S S.sessions in
       ap desk_or_empty (slice_get_past (desks_opened S S.sessions) k (omega (arith, c, l))) ∙ outside S (suc k) h (λ m t e. omega (arith, t.1, e, l))
@@ -145,11 +124,11 @@ desk-at S h (suc k) = elim (within-or-past k S.sessions) [
 board-opened : (S : Scenario) → IsScript S → board_of (record { pairs = S.pairs; watches = []; desks = desks_opened S S.sessions }) ≡ opening_board S
 board-opened S h = ap (λ (f : ℕ → Desk Item). record (opening_board S) { desks = f }) (λ i. λ s. desk-at S h s i)
 
-pub board-opens : (S T : Scenario) (b : BoardLists) (ps : List TextPair) (ds : List DeskLists) → T ≡ S → IsScript T → b ≡ record { pairs = ps; watches = []; desks = ds } → ps ≡ T.pairs → ds ≡ desks_opened S S.sessions → board_of b ≡ opening_board S
+pub board-opens : (S T : Scenario) (b : BoardLists Item) (ps : List TextPair) (ds : List (Desk Item)) → T ≡ S → IsScript T → b ≡ record { pairs = ps; watches = []; desks = ds } → ps ≡ T.pairs → ds ≡ desks_opened S S.sessions → board_of b ≡ opening_board S
 board-opens S T b ps ds e h q f g =
     let f' : ps ≡ S.pairs = f ∙ ap (λ (Z : Scenario). Z.pairs) e in
     let same : b ≡ record { pairs = S.pairs; watches = []; desks = desks_opened S S.sessions } = q ∙ (λ i. record { pairs = f' i; watches = []; desks = g i }) in
     ap board_of same ∙ board-opened S (subst IsScript e h)
 
-pub desks-count-is : (S : Scenario) (b : BoardLists) (ps : List TextPair) (ds : List DeskLists) → b ≡ record { pairs = ps; watches = []; desks = ds } → ds ≡ desks_opened S S.sessions → length b.desks ≡ S.sessions
-desks-count-is S b ps ds q g = ap (λ (z : BoardLists). length z.desks) q ∙ (ap (λ (zs : List DeskLists). length zs) g ∙ desks-count S S.sessions)
+pub desks-count-is : (S : Scenario) (b : BoardLists Item) (ps : List TextPair) (ds : List (Desk Item)) → b ≡ record { pairs = ps; watches = []; desks = ds } → ds ≡ desks_opened S S.sessions → length b.desks ≡ S.sessions
+desks-count-is S b ps ds q g = ap (λ (z : BoardLists Item). length z.desks) q ∙ (ap (λ (zs : List (Desk Item)). length zs) g ∙ desks-count S S.sessions)

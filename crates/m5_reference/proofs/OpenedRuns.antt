@@ -5,22 +5,24 @@ use Rattle.std.proofs.lemmas.List.{length-replicate, get_or-replicate}
 use Rattle.std.proofs.lemmas.Option.{slice_get-get_or}
 use Rattle.std.proofs.lemmas.List.Elements.{All-nil, All-cons, All-map}
 use Rattle.m5_terms.specs.declared.types.World.{World}
-use Rattle.m5_terms.specs.declared.types.World.TheVariants.{Home, Server, Any}
-use Rattle.m5_meaning.specs.Site.{Program, raw}
+use Rattle.m5_terms.specs.declared.types.World.TheVariants.{Home, Server, Panel, Any}
+use Rattle.m5_meaning.specs.Site.{Program, Item, raw}
 use Rattle.m5_script.specs.Scenario.{Scenario}
 use Rattle.m5_script.specs.declared.items.RawItem.{RawItem}
-use Rattle.m5_network.specs.Opening.{opening_board, opening_site, opening_threads}
+use Rattle.m5_network.specs.Opening.{opening_board, opening_site, opening_threads, raw_items, raws_for}
+use Rattle.m5_terms.specs.declared.per_world.PerWorld.{PerWorld}
+use Rattle.m5_terms.specs.PerWorld.{at, each}
+use Rattle.m5_terms.proofs.PerWorlds.{each-at}
 use Rattle.m5_terms.proofs.SiteWorlds.{is-real}
 use Rattle.m5_source_site.specs.ClosedSite.{IsClosedFrame, IsClosedThread, IsClosedSite, IsClosedProgram, IsClosedItem}
 use Rattle.m5_terms.specs.Closed.{IsClosed}
-use Rattle.m5_board.specs.BoardLists.{board_of}
+use Rattle.m5_board.specs.Boards.{board_of}
 use Rattle.m5_reference.specs.Ahead.{IsAhead}
 use Rattle.m5_reference.specs.ClosedTurn.{IsClosedBoard, IsClosedLeft}
 use Rattle.m5_reference.specs.Finishing.{Opens}
 use Rattle.m5_reference.specs.OpeningLists.{sites_opened}
-use Rattle.m5_reference.specs.SiteRows.{site_in, site_of_row, site_at}
+use Rattle.m5_reference.specs.SiteRows.{SessionSites, site_in, site_of_row, site_at}
 use Rattle.m5_reference.specs.declared.running.Running.{Running}
-use Rattle.m5_reference.specs.declared.sites.SessionSites.{SessionSites}
 use Rattle.m5_reference.proofs.Freely.{begin_free}
 
 -- each of the copies is the one that was copied
@@ -32,6 +34,7 @@ copied n k x h =
 in-row : (P : Program) (S : Scenario) (w : World) → w ≢ Any → IsAhead P S w (opening_site (opening_threads P w)) (site_in (sites_opened P) w)
 in-row P S Home n = (refl, (0, begin_free P S Home (opening_site (opening_threads P Home))))
 in-row P S Server n = (refl, (0, begin_free P S Server (opening_site (opening_threads P Server))))
+in-row P S Panel n = (refl, (0, begin_free P S Panel (opening_site (opening_threads P Panel))))
 in-row P S Any n = absurd (n refl)
 
 in-rows : (P : Program) (S : Scenario) (n s : ℕ) (w : World) → w ≢ Any → 1 ≤ s → s ≤ n → IsAhead P S w (opening_site (opening_threads P w)) (site_at (replicate n (sites_opened P)) s w)
@@ -51,6 +54,7 @@ idle-closed = record { threads = All-nil IsClosedThread; cells = All-nil IsClose
 row-closed : (P : Program) → IsClosedProgram P → (w : World) → IsClosedLeft (site_in (sites_opened P) w)
 row-closed P h Home = main-closed P h
 row-closed P h Server = idle-closed
+row-closed P h Panel = idle-closed
 row-closed P h Any = tt
 
 of-copies : (P : Program) → IsClosedProgram P → (n k : ℕ) (w : World) → IsClosedLeft (site_of_row (slice_get (replicate n (sites_opened P)) k) w)
@@ -71,7 +75,9 @@ raws-closed (r ∷ rs) = All-cons IsClosedRaw r rs tt (raws-closed rs)
 
 -- the links of the opening hold raw bytes alone
 links-closed : (S : Scenario) → IsClosedBoard (opening_board S)
-links-closed S = λ s v w. All-map IsClosedItem (λ (r : RawItem). raw r.bytes) _ (raws-closed _)
+links-closed S = λ s v w.
+    each-at (λ (r : PerWorld (List Item)). All IsClosedItem (at r w)) (λ u. each (λ x. raw_items s u x S.raws)) v
+    (λ u. each-at (All IsClosedItem) (λ x. raw_items s u x S.raws) w (λ x. All-map IsClosedItem (λ (r : RawItem). raw r.bytes) (raws_for s u x S.raws) (raws-closed (raws_for s u x S.raws))))
 
 pub opens : (P : Program) (S : Scenario) (r : Running) → IsClosedProgram P → r.rows.items ≡ replicate S.sessions (sites_opened P) → board_of r.board ≡ opening_board S → length r.board.desks ≡ S.sessions → r.entries ≡ [] → Opens P S r
 opens P S r h rows board desks entries =

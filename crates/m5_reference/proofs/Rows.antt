@@ -4,11 +4,13 @@ use Rattle.std.specs.Prelude.{slice_get, slice_set}
 use Rattle.std.proofs.lemmas.Option.{slice_get-get_or}
 use Rattle.std.proofs.Math.Dec.{eqb-suc-zero, eqb-zero-suc, eqb-suc-suc}
 use Rattle.m5_terms.specs.declared.types.World.{World}
-use Rattle.m5_terms.specs.declared.types.World.TheVariants.{Home, Server, Any}
+use Rattle.m5_terms.specs.declared.types.World.TheVariants.{Home, Server, Panel, Any}
+use Rattle.m5_terms.specs.PerWorld.{at, with_at}
+use Rattle.m5_terms.specs.Worlds.{IsSiteWorld}
+use Rattle.m5_terms.proofs.SiteWorlds.{is-real}
 use Rattle.m5_meaning.specs.Site.{Site}
 use Rattle.m5_network.specs.Board.{at_session, at_world}
-use Rattle.m5_reference.specs.SiteRows.{site_in, with_site_in, site_of_row, site_at, with_site_at}
-use Rattle.m5_reference.specs.declared.sites.SessionSites.{SessionSites}
+use Rattle.m5_reference.specs.SiteRows.{SessionSites, site_in, site_of_row, site_at, with_site_at}
 
 -- the place that is set, and the others
 at-place : (rows : List SessionSites) (k j : ℕ) (r : SessionSites) (w : World) → k < length rows → site_of_row (slice_get (slice_set rows k r) j) w ≡ (if j == k then site_in r w else site_of_row (slice_get rows j) w)
@@ -27,14 +29,27 @@ pointwise : (rows : List SessionSites) (k : ℕ) (r : SessionSites) (f : World �
 pointwise rows k r f h e zero v = rw (eqb-zero-suc k) refl
 pointwise rows k r f h e (suc j) v = rw (eqb-suc-suc j k) (at-place rows k j r v h ∙ by-session (j == k) (site_in r v) (site_of_row (slice_get rows j) v) f (site_at rows (suc j)) v (e v) refl)
 
-in-world : (w v : World) (x : Option Site) (r : SessionSites) → w ≢ Any → site_in (with_site_in w x r) v ≡ at_world w x (site_in r) v
+in-world : (w v : World) (x : Option Site) (r : SessionSites) → w ≢ Any → site_in (with_at w x r) v ≡ at_world w x (site_in r) v
 in-world Home Home x r h = refl
 in-world Home Server x r h = refl
+in-world Home Panel x r h = refl
 in-world Home Any x r h = refl
 in-world Server Home x r h = refl
 in-world Server Server x r h = refl
+in-world Server Panel x r h = refl
 in-world Server Any x r h = refl
+in-world Panel Home x r h = refl
+in-world Panel Server x r h = refl
+in-world Panel Panel x r h = refl
+in-world Panel Any x r h = refl
 in-world Any v x r h = absurd (h refl)
+
+-- at a world that has sites
+pub in-site : (r : SessionSites) (w : World) → IsSiteWorld w → site_in r w ≡ at r w
+in-site r Home i = refl
+in-site r Server i = refl
+in-site r Panel i = refl
+in-site r Any i = absurd (is-real Any i refl)
 
 pub the-row : (rows : List SessionSites) (s k : ℕ) (r : SessionSites) (w : World) → (1 ≤ s) × (s ≤ length rows) → k ≡ s - 1 → r ≡ get_or rows k r → site_at rows s w ≡ site_in r w
 the-row rows s k r w h e g =
@@ -43,11 +58,11 @@ the-row rows s k r w h e g =
     rw next (ap (λ (o : Option SessionSites). site_of_row o w) (slice_get-get_or rows k r within ∙ ap Some (sym g)))
 
 -- the row of a session is changed at a world
-pub changed : (rows : List SessionSites) (s k : ℕ) (w : World) (x : Option Site) (old new : SessionSites) → (1 ≤ s) × (s ≤ length rows) → w ≢ Any → k ≡ s - 1 → old ≡ get_or rows k old → new ≡ with_site_in w x old → site_at (slice_set rows k new) ≡ with_site_at s w x (site_at rows)
+pub changed : (rows : List SessionSites) (s k : ℕ) (w : World) (x : Option Site) (old new : SessionSites) → (1 ≤ s) × (s ≤ length rows) → IsSiteWorld w → k ≡ s - 1 → old ≡ get_or rows k old → new ≡ with_at w x old → site_at (slice_set rows k new) ≡ with_site_at s w x (site_at rows)
 changed rows s k w x old new h n e g c =
     let next : s ≡ suc k = omega (arith, h.0, e) in
     let within : k < length rows = omega (arith, h.0, h.1, e) in
     let row : (v : World) → site_at rows s v ≡ site_in old v = λ v. the-row rows s k old v h e g in
     let f : World → Option Site = at_world w x (site_at rows s) in
-    let same : (v : World) → site_in new v ≡ f v = λ v. ap (λ (r : SessionSites). site_in r v) c ∙ (in-world w v x old n ∙ sym (ap (λ (q : World → Option Site). at_world w x q v) (λ i. λ u. row u i))) in
+    let same : (v : World) → site_in new v ≡ f v = λ v. ap (λ (r : SessionSites). site_in r v) c ∙ (in-world w v x old (is-real w n) ∙ sym (ap (λ (q : World → Option Site). at_world w x q v) (λ i. λ u. row u i))) in
     subst (λ (z : ℕ). site_at (slice_set rows k new) ≡ at_session z f (site_at rows)) (sym next) (λ i. λ z. λ v. pointwise rows k new f within same z v i)

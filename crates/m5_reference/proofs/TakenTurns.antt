@@ -7,7 +7,7 @@ use Rattle.m5_meaning.specs.Site.{Program, Site}
 use Rattle.m5_script.specs.Scenario.{Scenario}
 use Rattle.m5_script.specs.declared.items.SiteName.{SiteName}
 use Rattle.m5_network.specs.Run.{Network, IsSite, with_site}
-use Rattle.m5_board.specs.BoardLists.{board_of}
+use Rattle.m5_board.specs.Boards.{board_of}
 use Rattle.m5_reference.specs.Ahead.{IsAhead}
 use Rattle.m5_reference.specs.ClosedTurn.{IsClosedBoard, IsClosedLeft}
 use Rattle.m5_reference.specs.Running.{StandsFor, IsReady, TakesTurn}

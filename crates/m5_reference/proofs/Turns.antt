@@ -17,7 +17,7 @@ use Rattle.m5_network.specs.Board.{Board, answer_of}
 use Rattle.m5_network.specs.Run.{Network, with_site}
 use Rattle.m5_source_site.specs.Waits.{resumed}
 use Rattle.m5_source_site.specs.declared.resume.Wait.{Wait}
-use Rattle.m5_board.specs.BoardLists.{BoardLists, board_of}
+use Rattle.m5_board.specs.Boards.{BoardLists, board_of}
 use Rattle.m5_reference.specs.Ahead.{IsAhead, kept}
 use Rattle.m5_network.specs.FirstMoment.{ComesFree, StopsFirst, AsksFree, GoesWrong}
 use Rattle.m5_reference.specs.Turning.{MakesDeed, IsStuck, IsTurned, IsAskTurned}
@@ -36,7 +36,7 @@ by-stop P S w t false e = (e, (0, begin_free P S w t))
 pub kept-ahead : (P : Program) (S : Scenario) (w : World) (t : Site) → IsAhead P S w t (kept t)
 kept-ahead P S w t = by-stop P S w t t.stopped refl
 
-pub stops-turned : (P : Program) (S : Scenario) (N : Network) (s : ℕ) (w : World) (x : Site) (cause : Cause) (b : BoardLists) → board_of b ≡ N.board → IsAhead P S w (N.site s w) (Some x) → StopsFirst P S w cause x → MakesDeed P S N s w b None (act.Stop cause)
+pub stops-turned : (P : Program) (S : Scenario) (N : Network) (s : ℕ) (w : World) (x : Site) (cause : Cause) (b : BoardLists Item) → board_of b ≡ N.board → IsAhead P S w (N.site s w) (Some x) → StopsFirst P S w cause x → MakesDeed P S N s w b None (act.Stop cause)
 stops-turned P S N s w x cause b e a h =
     let c : ComesFree P S w (plus a.1.0 h.steps) (N.site s w) h.at = follow P S w a.1.0 h.steps (N.site s w) x h.at a.1.1 h.comes in
     record {
@@ -60,7 +60,7 @@ stops-turned P S N s w x cause b e a h =
       entry = refl;
     }
 
-pub asks-turned : (P : Program) (S : Scenario) (N : Network) (s : ℕ) (w : World) (x y : Site) (k : Wait) (q : AskOf Item) (b : BoardLists) (t : Turned) → IsAhead P S w (N.site s w) (Some x) → AsksFree P S w x q (resumed P w y k) → board_of b ≡ (answer_of N.board s w q).board → IsAskTurned y q (resumed P w y k) (answer_of N.board s w q) t → IsTurned P S N s w b t
+pub asks-turned : (P : Program) (S : Scenario) (N : Network) (s : ℕ) (w : World) (x y : Site) (k : Wait) (q : AskOf Item) (b : BoardLists Item) (t : Turned) → IsAhead P S w (N.site s w) (Some x) → AsksFree P S w x q (resumed P w y k) → board_of b ≡ (answer_of N.board s w q).board → IsAskTurned y q (resumed P w y k) (answer_of N.board s w q) t → IsTurned P S N s w b t
 asks-turned P S N s w x y k q b (turned.Acts left shown) a f n h =
     let c : ComesFree P S w (plus a.1.0 f.steps) (N.site s w) f.waiting = follow P S w a.1.0 f.steps (N.site s w) x f.waiting a.1.1 f.comes in
     let entry : Act → Entry = λ z. record { session = s; world = w; act = z } in
@@ -117,7 +117,7 @@ wrong-turned P S N s w x a h =
     let c : ComesFree P S w (plus a.1.0 h.steps) (N.site s w) h.at = follow P S w a.1.0 h.steps (N.site s w) x h.at a.1.1 h.comes in
     record { steps = plus a.1.0 h.steps; at = h.at; comes = c.comes; stuck = inl h.stuck }
 
-pub answers : {E : Type 0} (r : Result Turned E) (P : Program) (S : Scenario) (N : Network) (s : ℕ) (w : World) (x y : Site) (k : Wait) (q : AskOf Item) (old new : BoardLists) → board_of old ≡ N.board → IsAhead P S w (N.site s w) (Some x) → AsksFree P S w x q (resumed P w y k) → IfOk r (λ t. board_of new ≡ (answer_of (board_of old) s w q).board) → IfOk r (IsAskTurned y q (resumed P w y k) (answer_of (board_of old) s w q)) → IfOk r (IsTurned P S N s w new)
+pub answers : {E : Type 0} (r : Result Turned E) (P : Program) (S : Scenario) (N : Network) (s : ℕ) (w : World) (x y : Site) (k : Wait) (q : AskOf Item) (old new : BoardLists Item) → board_of old ≡ N.board → IsAhead P S w (N.site s w) (Some x) → AsksFree P S w x q (resumed P w y k) → IfOk r (λ t. board_of new ≡ (answer_of (board_of old) s w q).board) → IfOk r (IsAskTurned y q (resumed P w y k) (answer_of (board_of old) s w q)) → IfOk r (IsTurned P S N s w new)
 answers (Ok t) P S N s w x y k q old new e a f n h =
     let Asked : Board Item → Type 0 = λ B. IsAskTurned y q (resumed P w y k) (answer_of B s w q) t in
     asks-turned P S N s w x y k q new t a f (n ∙ ap (λ (B : Board Item). (answer_of B s w q).board) e) (subst Asked e h)

@@ -13,7 +13,6 @@ use Rattle.m5_network.specs.Entries.{entry_of}
 use Rattle.m5_network.specs.Opening.{opening}
 use Rattle.m5_network.specs.Plain.{sites_of, joined}
 use Rattle.m5_network.specs.Run.{Network}
-use Rattle.m5_terms.proofs.SiteWorlds.{is-real}
 use Rattle.m5_reference.specs.Finishing.{Finishes, OrderEnds, end_of}
 use Rattle.m5_reference.specs.Reference.{IsReferenceRun}
 use Rattle.m5_reference.specs.Running.{IsNamed, TakesTurns, Settles, Strands, RoundsEnd}
@@ -36,7 +35,7 @@ round-sites S = All-from_recursion (IsSiteNamed S.sessions) (sites_of S.sessions
 -- and they are held
 pub are-held : (S : Scenario) (n : ℕ) (xs : List SiteName) → n ≡ S.sessions → All (IsSiteNamed S.sessions) xs → All (IsNamed n) xs
 are-held S n xs e h =
-    let held : (x : SiteName) → IsSiteNamed S.sessions x → IsNamed n x = λ x i. record { from_one = i.from_one; to_last = subst (λ (m : ℕ). x.session ≤ m) (sym e) i.to_last; world = is-real x.world i.world } in
+    let held : (x : SiteName) → IsSiteNamed S.sessions x → IsNamed n x = λ x i. record { from_one = i.from_one; to_last = subst (λ (m : ℕ). x.session ≤ m) (sym e) i.to_last; world = i.world } in
     All-weaker (IsSiteNamed S.sessions) (IsNamed n) held xs h
 
 finishes : (P : Program) (S : Scenario) (N : Network) (old mid new : Running) (h : TakesTurns P S N S.order old mid) → Settles P S h.after (sites_of S.sessions) mid new → Finishes P S N old new

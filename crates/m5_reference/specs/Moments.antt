@@ -7,7 +7,7 @@ use Rattle.m5_meaning.specs.Site.{Program, Site}
 use Rattle.m5_meaning.specs.Step.{site_next}
 use Rattle.m5_script.specs.Scenario.{Scenario}
 use Rattle.m5_source_site.specs.ClosedSite.{IsClosedSite, IsClosedNext}
-use Rattle.m5_source_site.specs.Waits.{query_of, resumed}
+use Rattle.m5_source_site.specs.Waits.{resumed}
 use Rattle.m5_reference.specs.declared.moment.Limits.{Limits}
 use Rattle.m5_reference.specs.declared.moment.Moment.{Moment}
 use Rattle.m5_reference.specs.declared.moment.Moment.TheVariants as moment
@@ -25,7 +25,7 @@ pub record HasLimits (S : Scenario) (l : Limits) : Type 0 where
 -- what is seen of the state itself
 abbrev pub IsMomentAt : Program → Scenario → World → Site → Moment → Type 0
 IsMomentAt P S w x (moment.Stops cause) = MayStop P S w cause x × (cause ≡ Region → MayStop P S w Spent x → ⊥)
-IsMomentAt P S w x (moment.Asks q y) = IsFree P S w x × (site_next P w x ≡ asks (query_of q) (resumed P w y.site y.wait))
+IsMomentAt P S w x (moment.Asks q y) = IsFree P S w x × (site_next P w x ≡ asks q (resumed P w y.site y.wait))
 IsMomentAt P S w x moment.Wrong = IsFree P S w x × (site_next P w x ≡ wrong)
 
 abbrev pub IsLookAt : Program → Scenario → World → Site → Look → Type 0
@@ -35,12 +35,12 @@ IsLookAt P S w x (look.Comes m) = IsMomentAt P S w x m
 -- the moment to which the site comes by local steps
 abbrev pub IsMoment : Program → Scenario → World → Site → Moment → Type 0
 IsMoment P S w x (moment.Stops cause) = StopsFirst P S w cause x
-IsMoment P S w x (moment.Asks q y) = AsksFree P S w x (query_of q) (resumed P w y.site y.wait)
+IsMoment P S w x (moment.Asks q y) = AsksFree P S w x q (resumed P w y.site y.wait)
 IsMoment P S w x moment.Wrong = GoesWrong P S w x
 
 -- what waits stays closed with each closed reply
 abbrev pub IsClosedMoment : Program → World → Moment → Type 0
-IsClosedMoment P w (moment.Asks q y) = IsClosedNext (asks (query_of q) (resumed P w y.site y.wait))
+IsClosedMoment P w (moment.Asks q y) = IsClosedNext (asks q (resumed P w y.site y.wait))
 IsClosedMoment P w _ = Unit {0}
 
 abbrev pub IsClosedLook : Program → World → Look → Type 0

@@ -1,7 +1,7 @@
 -- A run on its way, as the code holds it, beside the network that it stands for; and what turns make of both.
-use Rattle.std.specs.Prelude.{◌≡◌, ◌≢◌, ℕ, ◌≤◌, List, [], ◌++◌, length, map, All}
+use Rattle.std.specs.Prelude.{◌≡◌, ℕ, ◌≤◌, List, [], ◌++◌, length, map, All}
 use Rattle.m5_terms.specs.declared.types.World.{World}
-use Rattle.m5_terms.specs.declared.types.World.TheVariants.{Any}
+use Rattle.m5_terms.specs.Worlds.{IsSiteWorld}
 use Rattle.m5_meaning.specs.Site.{Program, Item}
 use Rattle.m5_script.specs.Scenario.{Scenario}
 use Rattle.m5_script.specs.declared.items.SiteName.{SiteName}
@@ -9,7 +9,7 @@ use Rattle.m5_network.specs.Claim.{has_seal}
 use Rattle.m5_network.specs.Entries.{Deed, entry_of}
 use Rattle.m5_network.specs.Plain.{Turns, Rounds, joined}
 use Rattle.m5_network.specs.Run.{Network, IsSite}
-use Rattle.m5_board.specs.BoardLists.{board_of}
+use Rattle.m5_board.specs.Boards.{board_of}
 use Rattle.m5_reference.specs.Ahead.{IsAhead}
 use Rattle.m5_reference.specs.ClosedTurn.{IsClosedBoard, IsClosedLeft}
 use Rattle.m5_reference.specs.Reference.{FirstTurn}
@@ -34,7 +34,7 @@ pub record IsReady (r : Running) : Type 0 where
 pub record IsNamed (count : ℕ) (x : SiteName) : Type 0 where
   pub from_one : 1 ≤ x.session
   pub to_last : x.session ≤ count
-  pub world : x.world ≢ Any
+  pub world : IsSiteWorld x.world
 
 -- as many sessions as before, ready again
 pub record StaysReady (old new : Running) : Type 0 where

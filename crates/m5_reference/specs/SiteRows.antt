@@ -1,21 +1,20 @@
 -- The sites of all sessions, of which those that have stopped are gone.
 use Rattle.std.specs.Prelude.{ℕ, zero, suc, List, Option, Some, None, slice_get}
 use Rattle.m5_terms.specs.declared.types.World.{World}
-use Rattle.m5_terms.specs.declared.types.World.TheVariants.{Home, Server, Any}
+use Rattle.m5_terms.specs.declared.types.World.TheVariants.{Any}
+use Rattle.m5_terms.specs.declared.per_world.PerWorld.{PerWorld}
+use Rattle.m5_terms.specs.PerWorld.{at}
 use Rattle.m5_meaning.specs.Site.{Site}
 use Rattle.m5_network.specs.Board.{at_session, at_world}
-use Rattle.m5_reference.specs.declared.sites.SessionSites.{SessionSites}
+
+-- the sites of one session
+abbrev pub SessionSites : Type 0
+SessionSites = PerWorld (Option Site)
 
 -- no site is at any
 abbrev pub site_in : SessionSites → World → Option Site
-site_in r Home = r.home
-site_in r Server = r.server
 site_in r Any = None
-
-abbrev pub with_site_in : World → Option Site → SessionSites → SessionSites
-with_site_in Home x r = record r { home = x }
-with_site_in Server x r = record r { server = x }
-with_site_in Any x r = r
+site_in r w = at r w
 
 abbrev pub site_of_row : Option SessionSites → World → Option Site
 site_of_row None w = None

@@ -13,7 +13,7 @@ use Rattle.m5_network.specs.Board.{Answered, answer_of}
 use Rattle.m5_network.specs.Entries.{Deed, shown, entry_of}
 use Rattle.m5_network.specs.Claim.{has_seal}
 use Rattle.m5_network.specs.Run.{Network, with_site}
-use Rattle.m5_board.specs.BoardLists.{BoardLists, board_of}
+use Rattle.m5_board.specs.Boards.{BoardLists, board_of}
 use Rattle.m5_reference.specs.Ahead.{IsAhead, kept}
 use Rattle.m5_reference.specs.Reference.{FirstTurn}
 use Rattle.m5_reference.specs.declared.turn.Turned.{Turned}
@@ -21,7 +21,7 @@ use Rattle.m5_reference.specs.declared.turn.Turned.TheVariants as turned
 
 -- a deed at the site's first moment, with what the history shows of it; after it the board is this one and the code's site is
 -- what is left
-pub record MakesDeed (P : Program) (S : Scenario) (N : Network) (s : ℕ) (w : World) (board : BoardLists) (left : Option Site) (act : Act) : Type 0 where
+pub record MakesDeed (P : Program) (S : Scenario) (N : Network) (s : ℕ) (w : World) (board : BoardLists Item) (left : Option Site) (act : Act) : Type 0 where
   pub deed : Deed Item
   pub site : Site
   pub turn : FirstTurn P S N (record { session = s; world = w }) (deed ∷ []) (with_site s w site (board_of board) N)
@@ -29,7 +29,7 @@ pub record MakesDeed (P : Program) (S : Scenario) (N : Network) (s : ℕ) (w : W
   pub entry : entry_of has_seal deed ≡ record { session = s; world = w; act = act }
 
 -- nothing is found: the board stays, and the code's site waits
-pub record FindsNothing (P : Program) (S : Scenario) (N : Network) (s : ℕ) (w : World) (board : BoardLists) (left : Site) : Type 0 where
+pub record FindsNothing (P : Program) (S : Scenario) (N : Network) (s : ℕ) (w : World) (board : BoardLists Item) (left : Site) : Type 0 where
   pub turn : FirstTurn P S N (record { session = s; world = w }) [] N
   pub same : board_of board ≡ N.board
   pub ahead : IsAhead P S w (N.site s w) (Some left)
@@ -41,7 +41,7 @@ pub record IsStuck (P : Program) (N : Network) (s : ℕ) (w : World) : Type 0 wh
   pub comes : Comes (site_next P w) steps (N.site s w) at
   pub stuck : (site_next P w at ≡ wrong) ⊎ ((q : AskOf Item) × (resume : AnswerOf Item → Option Site) × (site_next P w at ≡ asks q resume) × ((answer_of N.board s w q).reply ≢ answer.Nothing) × (resume (answer_of N.board s w q).reply ≡ None))
 
-abbrev pub IsTurned : Program → Scenario → Network → ℕ → World → BoardLists → Turned → Type 0
+abbrev pub IsTurned : Program → Scenario → Network → ℕ → World → BoardLists Item → Turned → Type 0
 IsTurned P S N s w b (turned.Acts left act) = MakesDeed P S N s w b left act
 IsTurned P S N s w b (turned.Rests site) = FindsNothing P S N s w b site
 IsTurned P S N s w b turned.Wrong = IsStuck P N s w

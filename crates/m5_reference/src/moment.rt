@@ -6,11 +6,11 @@ ghost use Rattle.m5_source_site.specs.ClosedSite.{IsClosedSite, IsClosedProgram}
 ghost use Rattle.m5_reference.specs.Moments.{HasLimits, IsLookAt, IsMoment, IsClosedLook, IsClosedMoment, IsCountedLook};
 
 use m5_source_site::advance::{Progress, advance};
-use m5_source_site::query::SiteQuery;
+use m5_source_site::item::SiteAsk;
 use m5_source_site::resume::{Wait, Waiting};
 use m5_source_site::rules::Rules;
 use m5_source_site::site::Site;
-use m5_terms::ask::Cause;
+use m5_terms::ask::{AskOf, Cause};
 use m5_terms::types::World;
 use std::alloc::{AllocError, Global};
 
@@ -25,7 +25,7 @@ pub struct Limits {
 #[derive(Drop)]
 pub enum Moment {
     Stops(Cause),
-    Asks(SiteQuery, Waiting),
+    Asks(SiteAsk, Waiting),
     Wrong,
 }
 
@@ -53,7 +53,7 @@ fn see(
 {
     if site.is_idle() {
         let wait = Wait::ForNews;
-        return Ok(Look::Comes(Moment::Asks(SiteQuery::Take, Waiting { site, wait })));
+        return Ok(Look::Comes(Moment::Asks(AskOf::Take, Waiting { site, wait })));
     }
     if limits.steps <= site.steps() {
         return Ok(Look::Comes(Moment::Stops(Cause::Spent)));

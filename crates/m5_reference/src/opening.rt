@@ -1,21 +1,27 @@
 //! The sites and the board that a script opens with.
 
-ghost use Rattle.std.specs.Prelude.{◌≡◌, ◌++◌, [], ◌∷◌, length, replicate, IfOk, OnOk};
-ghost use Rattle.m5_network.specs.Opening.{raw_from, opening_site, opening_threads, opening_board};
-ghost use Rattle.m5_board.specs.BoardLists.{board_of};
-ghost use Rattle.m5_reference.specs.OpeningLists.{session_events, raw_links, joined_links, desk_opened, desks_opened, sites_opened};
+ghost use Rattle.std.specs.Prelude.{◌≡◌, ◌++◌, [], ◌∷◌, length, replicate, false, Some, IfOk, OnOk};
+ghost use Rattle.m5_terms.specs.PerWorld.{each};
+ghost use Rattle.std.specs.List.{AllPairs};
+ghost use Rattle.m5_script.specs.Scenario.{same_key};
+ghost use Rattle.m5_script.specs.declared.items.TextPair.{TextPair as TextPairOf};
+ghost use Rattle.m5_network.specs.Opening.{raw_from, raw_items, opening_desk, opening_site, opening_threads, opening_board};
+ghost use Rattle.m5_board.specs.Boards.{board_of};
+ghost use Rattle.m5_reference.specs.OpeningLists.{session_events, raw_links, desks_opened, sites_opened};
 
 use crate::sites::SessionSites;
-use m5_board::board::BoardRow;
-use m5_board::desk::DeskRow;
-use m5_board::link::{LinkItem, LinksFrom};
-use m5_board::rows::HappeningRow;
+use m5_board::board::Board;
+use m5_board::desk::Desk;
+use m5_keys::keys::Keys;
+use m5_page::row::Event;
 use m5_script::items::{PageEvent, RawItem, TextPair};
 use m5_script::script::Script;
-use m5_source_site::query::SiteItem;
+use m5_source_site::item::LinkItem;
 use m5_source_site::rules::Rules;
 use m5_source_site::site::Site;
 use m5_source_site::thread::SiteThread;
+use m5_terms::item::Item;
+use m5_terms::per_world::PerWorld;
 use m5_terms::queue::Queue;
 use m5_terms::thread::Focus;
 use m5_terms::types::{World, is_same_world};
@@ -24,27 +30,23 @@ use std::alloc::{AllocError, Global};
 /// Adds the event behind the others where it is of the session.
 fn add_event(
     alloc: Global,
-    left: &mut Queue<HappeningRow>,
+    left: &mut Queue<Event>,
     event: &PageEvent,
     session: u32,
 ) -> Result<(), AllocError>
     ensures { OnOk result (left.new ≡ left.old ++ session_events (event.now ∷ []) session) }
 {
     if event.session == session {
-        let place = event.element.copy(alloc)?;
-        let content = event.text.copy(alloc)?;
-        left.push_back(HappeningRow { place, content })
+        let element = event.element.copy(alloc)?;
+        let text = event.text.copy(alloc)?;
+        left.push_back(Event { element, text })
     } else {
         Ok(())
     }
 }
 
 /// The events of a session, in their order.
-fn events_of(
-    alloc: Global,
-    events: &[PageEvent],
-    session: u32,
-) -> Result<Queue<HappeningRow>, AllocError>
+fn events_of(alloc: Global, events: &[PageEvent], session: u32) -> Result<Queue<Event>, AllocError>
     ensures { IfOk result (λ q. q ≡ session_events events.now session) }
 {
     let mut left = Queue::make(alloc);
@@ -60,29 +62,53 @@ fn raw_source(to: World) -> World
 {
     match to {
         World::Home => World::Server,
-        World::Server | World::Any => World::Home,
+        _ => World::Home,
     }
 }
 
-/// Adds the raw bytes to the link that they lie in, where it is one of these.
+/// A session's links from one world.
+type LinksFrom = PerWorld<Queue<LinkItem>>;
+
+/// Adds the raw bytes behind the others where they lie in the link.
 fn add_raw(
     alloc: Global,
-    links: &mut LinksFrom,
+    link: &mut Queue<LinkItem>,
     item: &RawItem,
     session: u32,
     from: World,
+    to: World,
 ) -> Result<(), AllocError>
-    ensures { OnOk result (links.new ≡ joined_links links.old (raw_links (item.now ∷ []) session from)) }
+    ensures { OnOk result (link.new ≡ link.old ++ raw_items session from to (item.now ∷ [])) }
 {
-    if item.session == session && is_same_world(from, raw_source(item.world)) {
+    if item.session == session
+        && is_same_world(item.world, to)
+        && is_same_world(from, raw_source(to))
+    {
         let bytes = item.bytes.copy(alloc)?;
-        links.add(item.world, LinkItem::new(SiteItem::Raw(bytes)))
+        link.push_back(LinkItem::of_raw(bytes))
     } else {
         Ok(())
     }
 }
 
-/// The links from a world of a session, with the raw bytes that lie in them.
+/// The raw bytes that lie in the link of a session from one world to another.
+fn link_of(
+    alloc: Global,
+    raws: &[RawItem],
+    session: u32,
+    from: World,
+    to: World,
+) -> Result<Queue<LinkItem>, AllocError>
+    ensures { IfOk result (λ q. q ≡ raw_items session from to raws.now) }
+{
+    let mut link = Queue::make(alloc);
+    for item in raws {
+        add_raw(alloc, &mut link, item, session, from, to)?;
+    }
+    Ok(link)
+}
+
+/// The links of a session from one world, with the raw bytes that lie in them.
 fn links_from(
     alloc: Global,
     raws: &[RawItem],
@@ -91,23 +117,29 @@ fn links_from(
 ) -> Result<LinksFrom, AllocError>
     ensures { IfOk result (λ l. l ≡ raw_links raws.now session from) }
 {
-    let mut links = LinksFrom::make(alloc);
-    for item in raws {
-        add_raw(alloc, &mut links, item, session, from)?;
-    }
-    Ok(links)
+    PerWorld::of_each(|to: World| link_of(alloc, raws, session, from, to))
 }
 
-fn open_desk(alloc: Global, script: &Script, session: u32) -> Result<DeskRow, AllocError>
-    ensures { IfOk result (λ d. d ≡ desk_opened script.now session) }
+/// All links of a session.
+fn links_of(
+    alloc: Global,
+    raws: &[RawItem],
+    session: u32,
+) -> Result<PerWorld<LinksFrom>, AllocError>
+    ensures { IfOk result (λ l. l ≡ each (raw_links raws.now session)) }
+{
+    PerWorld::of_each(|from: World| links_from(alloc, raws, session, from))
+}
+
+fn open_desk(alloc: Global, script: &Script, session: u32) -> Result<Desk<LinkItem>, AllocError>
+    ensures { IfOk result (λ d. d ≡ opening_desk script.now session) }
 {
     let events = events_of(alloc, script.events.as_slice(), session)?;
-    let home = links_from(alloc, script.raws.as_slice(), session, World::Home)?;
-    let server = links_from(alloc, script.raws.as_slice(), session, World::Server)?;
-    Ok(DeskRow::opening(alloc, events, home, server))
+    let links = links_of(alloc, script.raws.as_slice(), session)?;
+    Ok(Desk::opening(alloc, events, links))
 }
 
-fn open_desks(alloc: Global, script: &Script) -> Result<Vec<DeskRow>, AllocError>
+fn open_desks(alloc: Global, script: &Script) -> Result<Vec<Desk<LinkItem>>, AllocError>
     ensures { IfOk result (λ v. v.items ≡ desks_opened script.now script.now.sessions) }
 {
     let mut desks = Vec::new(alloc);
@@ -117,57 +149,64 @@ fn open_desks(alloc: Global, script: &Script) -> Result<Vec<DeskRow>, AllocError
     Ok(desks)
 }
 
-fn copy_pair(alloc: Global, pair: &TextPair) -> Result<TextPair, AllocError>
-    ensures { IfOk result (λ p. p ≡ pair.now) }
+/// The key store with these pairs, whose keys all differ.
+fn open_keys(alloc: Global, pairs: &[TextPair]) -> Result<Keys, AllocError>
+    requires { AllPairs (λ (p q : TextPairOf). same_key q.key p ≡ false) pairs.now }
+    ensures { IfOk result (λ k. k ≡ record { pairs = pairs.now; watches = [] }) }
 {
-    let key = pair.key.copy(alloc)?;
-    let text = pair.text.copy(alloc)?;
-    Ok(TextPair { key, text })
-}
-
-fn copy_pairs(alloc: Global, pairs: &[TextPair]) -> Result<Vec<TextPair>, AllocError>
-    ensures { IfOk result (λ v. v.items ≡ pairs.now) }
-{
-    let mut copies = Vec::new(alloc);
+    let mut keys = Keys::make(alloc);
     for pair in pairs {
-        copies.push(copy_pair(alloc, pair)?)?;
+        let key = pair.key.copy(alloc)?;
+        let text = pair.text.copy(alloc)?;
+        keys.write(key, text)?;
     }
-    Ok(copies)
+    Ok(keys)
 }
 
 /// The board with the script's pairs, events and raw bytes.
-pub fn open_board(alloc: Global, script: &Script) -> Result<BoardRow, AllocError>
+pub fn open_board(alloc: Global, script: &Script) -> Result<Board<LinkItem>, AllocError>
     ensures board { IfOk result (λ b. board_of b ≡ opening_board script.now) }
     ensures count { IfOk result (λ b. length b.desks ≡ script.now.sessions) }
 {
-    let pairs = copy_pairs(alloc, script.pairs.as_slice())?;
+    let keys = open_keys(alloc, script.pairs.as_slice())?;
     let desks = open_desks(alloc, script)?;
-    Ok(BoardRow::opening(alloc, pairs, desks))
+    Ok(Board::without_watches(keys, desks))
 }
 
-/// The thread that evaluates the program's main term.
-fn main_threads(alloc: Global, rules: &Rules<'_>) -> Result<Queue<SiteThread>, AllocError>
-    ensures { IfOk result (λ ts. ts ≡ opening_threads rules.now World.Home) }
+/// The threads with which the site of a world opens: at home one evaluates the program's main term.
+fn open_threads(
+    alloc: Global,
+    rules: &Rules<'_>,
+    world: World,
+) -> Result<Queue<SiteThread>, AllocError>
+    ensures { IfOk result (λ ts. ts ≡ opening_threads rules.now world) }
 {
-    let focus = Focus::Eval(World::Home, rules.main().copy(alloc)?);
     let mut threads = Queue::make(alloc);
-    threads.push_back(SiteThread::new(Queue::make(alloc), focus))?;
+    match world {
+        World::Home => {
+            let focus = Focus::Eval(World::Home, rules.main().copy(alloc)?);
+            threads.push_back(SiteThread::new(Queue::make(alloc), focus))?;
+        }
+        _ => {}
+    }
     Ok(threads)
+}
+
+/// The site of a world as it opens.
+fn open_site(alloc: Global, rules: &Rules<'_>, world: World) -> Result<Option<Site>, AllocError>
+    ensures { IfOk result (λ o. o ≡ Some (opening_site (opening_threads rules.now world))) }
+{
+    Ok(Some(Site::opening(alloc, open_threads(alloc, rules, world)?)))
 }
 
 fn open_session(alloc: Global, rules: &Rules<'_>) -> Result<SessionSites, AllocError>
     ensures { IfOk result (λ r. r ≡ sites_opened rules.now) }
 {
-    let home = Site::opening(alloc, main_threads(alloc, rules)?);
-    let server = Site::opening(alloc, Queue::make(alloc));
-    Ok(SessionSites {
-        home: Some(home),
-        server: Some(server),
-    })
+    PerWorld::of_each(|world: World| open_site(alloc, rules, world))
 }
 
 /// The sites of so many sessions: each home begins with a thread that evaluates the main term, and
-/// each server with none.
+/// each other site with none.
 pub fn open_sites(
     alloc: Global,
     rules: &Rules<'_>,

@@ -10,8 +10,9 @@ ghost use Rattle.m5_reference.specs.Running.{StandsFor, IsReady, IsNamed, StaysR
 use crate::moment::Limits;
 use crate::sites::{SessionSites, put_site, take_site};
 use crate::turn::{Turned, turn};
-use m5_board::board::BoardRow;
+use m5_board::board::Board;
 use m5_script::items::SiteName;
+use m5_source_site::item::LinkItem;
 use m5_source_site::rules::Rules;
 use m5_terms::ask::{Entries, Entry};
 use std::alloc::{AllocError, Global};
@@ -20,7 +21,7 @@ use std::alloc::{AllocError, Global};
 #[derive(Drop)]
 pub struct Running {
     pub rows: Vec<SessionSites>,
-    pub board: BoardRow,
+    pub board: Board<LinkItem>,
     pub entries: Entries,
 }
 

@@ -1,27 +1,27 @@
 //! One turn of a site.
 
-ghost use Rattle.std.specs.Prelude.{◌≡◌, ◌≢◌, ◌<◌, ◌^◌, ◌↔◌, length, IfOk, OnOk, IsTrue, Some};
-ghost use Rattle.m5_terms.specs.declared.types.World.TheVariants.{Any};
+ghost use Rattle.std.specs.Prelude.{◌≡◌, ◌<◌, ◌^◌, ◌↔◌, length, IfOk, OnOk, IsTrue, Some};
+ghost use Rattle.m5_terms.specs.Worlds.{IsSiteWorld};
 ghost use Rattle.m5_terms.specs.declared.ask.AnswerOf.TheVariants as answer;
 ghost use Rattle.m5_script.specs.Scenario.{Scenario};
 ghost use Rattle.m5_network.specs.Board.{answer_of};
 ghost use Rattle.m5_network.specs.Run.{Network};
 ghost use Rattle.m5_source_site.specs.ClosedSite.{HasRoom, IsClosedSite, IsClosedProgram};
-ghost use Rattle.m5_source_site.specs.Waits.{query_of, reply_of, resumed};
-ghost use Rattle.m5_board.specs.BoardLists.{board_of, IsSession};
+ghost use Rattle.m5_source_site.specs.Waits.{resumed};
+ghost use Rattle.m5_board.specs.Boards.{board_of, IsSession};
 ghost use Rattle.m5_reference.specs.Moments.{HasLimits};
 ghost use Rattle.m5_reference.specs.Ahead.{IsAhead, kept};
 ghost use Rattle.m5_reference.specs.Turning.{IsTurned, IsAskTurned};
 ghost use Rattle.m5_reference.specs.ClosedTurn.{IsClosedBoard, IsClosedTurned};
 
 use crate::moment::{Limits, Moment, next_moment};
-use m5_board::board::{Answered, BoardRow};
+use m5_board::board::{Answered, Board};
 use m5_script::items::SiteName;
-use m5_source_site::query::{SiteQuery, SiteReply};
+use m5_source_site::item::{LinkItem, SiteAnswer, SiteAsk};
 use m5_source_site::resume::Waiting;
 use m5_source_site::rules::Rules;
 use m5_source_site::site::Site;
-use m5_terms::ask::Act;
+use m5_terms::ask::{Act, AnswerOf};
 use m5_terms::types::World;
 use std::alloc::{AllocError, Global};
 
@@ -47,10 +47,10 @@ fn check_room(site: &Site) -> Result<(), AllocError>
     }
 }
 
-fn is_nothing(reply: &SiteReply) -> bool
-    ensures { IsTrue result ↔ (reply_of reply.now ≡ answer.Nothing) }
+fn is_nothing(reply: &SiteAnswer) -> bool
+    ensures { IsTrue result ↔ (reply.now ≡ answer.Nothing) }
 {
-    matches!(reply, SiteReply::Nothing)
+    matches!(reply, AnswerOf::Nothing)
 }
 
 /// The site, unless it has stopped.
@@ -66,9 +66,9 @@ fn resume(
     rules: &Rules<'_>,
     here: World,
     waiting: Waiting,
-    reply: SiteReply,
+    reply: SiteAnswer,
 ) -> Result<Option<Site>, AllocError>
-    ensures { IfOk result (λ o. o ≡ resumed rules.now here waiting.site waiting.wait (reply_of reply)) }
+    ensures { IfOk result (λ o. o ≡ resumed rules.now here waiting.site waiting.wait reply) }
 {
     check_room(&waiting.site)?;
     waiting.resume(alloc, rules, here, reply)
@@ -78,15 +78,15 @@ fn resume(
 fn answer_turn(
     alloc: Global,
     rules: &Rules<'_>,
-    board: &mut BoardRow,
+    board: &mut Board<LinkItem>,
     name: SiteName,
-    query: SiteQuery,
+    query: SiteAsk,
     waiting: Waiting,
 ) -> Result<Turned, AllocError>
     requires session { IsSession name.session board.old.desks }
-    requires world { name.world ≢ Any }
-    ensures board { let x = answer_of (board_of board.old) name.session name.world (query_of query) in IfOk result (λ t. board_of board.new ≡ x.board) }
-    ensures turned { let x = answer_of (board_of board.old) name.session name.world (query_of query) in IfOk result (IsAskTurned waiting.site (query_of query) (resumed rules.now name.world waiting.site waiting.wait) x) }
+    requires world { IsSiteWorld name.world }
+    ensures board { let x = answer_of (board_of board.old) name.session name.world query in IfOk result (λ t. board_of board.new ≡ x.board) }
+    ensures turned { let x = answer_of (board_of board.old) name.session name.world query in IfOk result (IsAskTurned waiting.site query (resumed rules.now name.world waiting.site waiting.wait) x) }
     ensures count { length board.new.desks ≡ length board.old.desks }
 {
     let Answered { reply, act } = board.answer(alloc, name.session, name.world, query)?;
@@ -105,7 +105,7 @@ pub fn turn(
     alloc: Global,
     rules: &Rules<'_>,
     limits: Limits,
-    board: &mut BoardRow,
+    board: &mut Board<LinkItem>,
     name: SiteName,
     site: Site,
 ) -> Result<Turned, AllocError>
@@ -114,7 +114,7 @@ pub fn turn(
     requires closed { IsClosedSite site }
     requires program { IsClosedProgram rules.now }
     requires session { IsSession name.session board.old.desks }
-    requires world { name.world ≢ Any }
+    requires world { IsSiteWorld name.world }
     ensures turned { (S : Scenario) (N : Network) → HasLimits S limits → board_of board.old ≡ N.board → IsAhead rules.now S name.world (N.site name.session name.world) (Some site) → IfOk result (IsTurned rules.now S N name.session name.world board.new) }
     ensures closed { IsClosedBoard (board_of board.old) → IfOk result IsClosedTurned }
     ensures closed_board { IsClosedBoard (board_of board.old) → IfOk result (λ t. IsClosedBoard (board_of board.new)) }

@@ -1,5 +1,9 @@
-use Rattle.m5_reference.proofs.Opened.{links-next}
+use Rattle.std.proofs.Common.{rules, of_calls}
+use Rattle.m5_network.specs.Opening.{raw_items}
+use Rattle.m5_reference.proofs.Eachs.{each-by}
 use Rattle.m5_reference.proofs.opening.links_from.Goals as goal
 
-pub loop-item-preserved : goal.loop-item-preserved
-loop-item-preserved c = links-next c.args.raws.now c.loop-item.item-index c.item-item.result c.args.session c.args.from c.loop-item.links c.add_raw.new.links c.loop-item-test.true c.item-item.is c.loop-item.invariant c.in_ok-add_raw.ensures
+pub returns : goal.returns
+returns c =
+    each-by (λ w. raw_items c.args.session c.args.from w c.args.raws.now) _ c.of_each.result
+    (λ p h w i. let made = h w i in search (of_calls, rules, made)) c.of_each.ensures

@@ -1,10 +1,13 @@
-use Rattle.std.proofs.Common.{◌∙◌}
+use Rattle.std.proofs.Common.{◌∙◌, ap}
+use Rattle.m5_keys.specs.Keys.{KeyStore}
 use Rattle.m5_script.specs.contracts.script.Script.{the_view}
 use Rattle.m5_reference.proofs.Opened.{board-opens, desks-count-is}
 use Rattle.m5_reference.proofs.opening.open_board.Goals as goal
 
 pub returns-clause-board : goal.returns-clause-board
-returns-clause-board c = board-opens c.args.script.now (the_view c.script.inside) c.opening.result c.in_ok-pairs.pairs.items c.in_ok-desks.desks.items c.script.view_is c.script.invariant c.opening.ensures (c.in_ok-pairs.ensures ∙ c.as_slice.ensures) c.in_ok-desks.ensures
+returns-clause-board c =
+    let pairs = ap (λ (k : KeyStore). k.pairs) c.in_ok-keys.ensures ∙ c.as_slice.ensures in
+    board-opens c.args.script.now (the_view c.script.inside) c.without_watches.result c.in_ok-keys.keys.pairs c.in_ok-desks.desks.items c.script.view_is c.script.invariant c.without_watches.ensures pairs c.in_ok-desks.ensures
 
 pub returns-clause-count : goal.returns-clause-count
-returns-clause-count c = desks-count-is c.args.script.now c.opening.result c.in_ok-pairs.pairs.items c.in_ok-desks.desks.items c.opening.ensures c.in_ok-desks.ensures
+returns-clause-count c = desks-count-is c.args.script.now c.without_watches.result c.in_ok-keys.keys.pairs c.in_ok-desks.desks.items c.without_watches.ensures c.in_ok-desks.ensures

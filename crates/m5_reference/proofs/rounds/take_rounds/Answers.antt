@@ -1,10 +1,15 @@
-use Rattle.std.proofs.Common.{refl, sym, ◌∙◌}
+use Rattle.std.proofs.Common.{ℕ, All, refl, sym, subst, ◌∙◌}
+use Rattle.m5_reference.specs.Running.{IsNamed}
 use Rattle.m5_network.specs.Plain.{joined}
 use Rattle.m5_reference.proofs.TurnLists.{no-rounds, next-round, last-round, strands-rounds, silent-round, busy-round}
 use Rattle.m5_reference.proofs.rounds.take_rounds.Goals as goal
 
 pub rounds-init : goal.rounds-init
 rounds-init c = (record { count = refl; ready = c.requires.ready }, λ S N l h a. no-rounds c.args.rules.now S N c.args.names.now c.args.running.now h)
+
+-- as many sessions are held in each round
+pub take_turns-requires-clause-names : goal.take_turns-requires-clause-names
+take_turns-requires-clause-names c = subst (λ (n : ℕ). All (IsNamed n) c.args.names.now) (sym c.rounds.invariant.0.count) c.requires.names
 
 pub returns-in-Wrong-clause-turned : goal.returns-in-Wrong-clause-turned
 returns-in-Wrong-clause-turned c = λ S N l h a.

@@ -16,6 +16,12 @@ returns-in-Wrong c = λ N h.
     let named : All (IsSiteNamed S.sessions) c.as_slice.result.now = subst (All (IsSiteNamed S.sessions)) (sym order) (order-sites S (lesser-budget-is-script c.args.script.now c.requires.script)) in
     rw c.in-Wrong.is at (c.in_ok-take_turns.ensures.turned S N c.requires.limits h named)
 
+pub take_turns-requires-clause-names : goal.take_turns-requires-clause-names
+take_turns-requires-clause-names c =
+    let S : Scenario = with_lesser_budget c.args.script.now in
+    let order : c.as_slice.result.now ≡ S.order = c.as_slice.ensures ∙ ap (λ (T : Scenario). T.order) c.script.view_is in
+    are-held S _ c.as_slice.result.now c.requires.opens.count (subst (All (IsSiteNamed S.sessions)) (sym order) (order-sites S (lesser-budget-is-script c.args.script.now c.requires.script)))
+
 pub take_rounds-requires-clause-names : goal.take_rounds-requires-clause-names
 take_rounds-requires-clause-names c =
     let S : Scenario = with_lesser_budget c.args.script.now in

@@ -3,4 +3,4 @@ use Rattle.m5_reference.proofs.Rows.{changed}
 use Rattle.m5_reference.proofs.sites.put_site.Goals as goal
 
 pub returns-clause-put : goal.returns-clause-put
-returns-clause-put c = changed c.args.rows.now.items c.args.name.session (c.args.name.session - 1) c.args.name.world c.args.site c.index_mut-row.result.now c.put.new.self c.requires.session c.requires.world refl c.index_mut-row.ensures.value c.put.ensures
+returns-clause-put c = changed c.args.rows.now.items c.args.name.session (c.args.name.session - 1) c.args.name.world c.args.site c.index_mut-row.result.now c.set.new.self c.requires.session c.requires.world refl c.index_mut-row.ensures.value c.set.ensures

@@ -1,0 +1,9 @@
+use Rattle.std.proofs.Common.{Some, rules, of_calls}
+use Rattle.m5_network.specs.Opening.{opening_site, opening_threads}
+use Rattle.m5_reference.proofs.Eachs.{each-by}
+use Rattle.m5_reference.proofs.opening.open_session.Goals as goal
+
+pub returns : goal.returns
+returns c =
+    each-by (λ w. Some (opening_site (opening_threads c.args.rules.now w))) _ c.of_each.result
+    (λ p h w i. let made = h w i in search (of_calls, rules, made)) c.of_each.ensures
