@@ -1,7 +1,7 @@
 //! Sites that fill their table of threads, of cells or of handlers, and then ask to stop: more steps than the job `ref` has.
 
 ghost use Rattle.std.specs.Prelude.{◌≡◌, IfOk, IfSome, Some};
-ghost use Rattle.m5_terms.specs.Asks.{done};
+ghost use Rattle.m5_terms.specs.declared.ask.AnswerOf.TheVariants.{Done};
 ghost use Rattle.m5_terms.specs.declared.types.World.TheVariants.{Home};
 ghost use Rattle.m5_meaning.specs.Site.{Site as SiteOf};
 ghost use Rattle.m5_source_site.specs.ClosedSite.{IsClosedProgram, IsClosedSite};
@@ -9,13 +9,13 @@ ghost use Rattle.m5_source_site.specs.Waits.{resumed};
 
 use m5_front::program::read_program;
 use m5_source_site::advance::{Progress, advance};
-use m5_source_site::query::{SiteQuery, SiteReply};
-use m5_source_site::queue::Queue;
+use m5_source_site::item::SiteAsk;
 use m5_source_site::resume::Waiting;
 use m5_source_site::rules::Rules;
 use m5_source_site::site::Site;
 use m5_source_site::thread::SiteThread;
-use m5_terms::ask::Cause;
+use m5_terms::ask::{AnswerOf, AskOf, Cause};
+use m5_terms::queue::Queue;
 use m5_terms::thread::Focus;
 use m5_terms::types::World;
 use std::alloc::{AllocError, Global};
@@ -50,23 +50,23 @@ enum Kind {
     Differs,
 }
 
-fn kind_of(query: SiteQuery) -> Kind {
+fn kind_of(query: SiteAsk) -> Kind {
     match query {
-        SiteQuery::On(_, _) => Kind::Registers,
-        SiteQuery::Stop(Cause::Table) => Kind::Fills,
+        AskOf::On(_, _) => Kind::Registers,
+        AskOf::Stop(Cause::Table) => Kind::Fills,
         _ => Kind::Differs,
     }
 }
 
 /// The site after the board has done what it asked; none where its numbers are large.
 fn answered(alloc: Global, rules: &Rules<'_>, waiting: Waiting) -> Result<Option<Site>, AllocError>
-    requires { (t : SiteOf) → resumed rules.now Home waiting.site waiting.wait done ≡ Some t → IsClosedSite t }
+    requires { (t : SiteOf) → resumed rules.now Home waiting.site waiting.wait Done ≡ Some t → IsClosedSite t }
     ensures { IfOk result (λ o. IfSome o IsClosedSite) }
 {
     if 1_000_000 <= waiting.site.steps() || 1_000_000_000 <= waiting.site.weight() {
         return Ok(None);
     }
-    waiting.resume(alloc, rules, World::Home, SiteReply::Done)
+    waiting.resume(alloc, rules, World::Home, AnswerOf::Done)
 }
 
 /// How many handlers a site of home registers, and its steps where it asks to stop for a full table; none where it comes
