@@ -7,6 +7,7 @@ pub mod blocks;
 mod cells;
 pub mod closure;
 mod decimal;
+pub mod link;
 pub mod listed;
 pub mod made;
 mod make;
@@ -16,4 +17,6 @@ mod operand;
 mod primitive;
 pub mod run;
 pub mod step;
+#[cfg(test)]
+mod tests;
 mod texts;
