@@ -36,6 +36,27 @@ impl Blocks {
         Blocks { starts, steps }
     }
 
+    /// A body begins at each step. The call does nothing.
+    pub fn is_flat(&self)
+        ensures { IsFlat self.now }
+    {
+        let _ = &self.steps;
+    }
+
+    /// Where the block of each label begins; `NO_BLOCK` where it has none.
+    pub fn starts(&self) -> &[u32]
+        ensures { result.now ≡ self.now.starts }
+    {
+        self.starts.as_slice()
+    }
+
+    /// The steps of all blocks.
+    pub fn steps(&self) -> &[Step]
+        ensures { result.now ≡ self.now.steps }
+    {
+        self.steps.as_slice()
+    }
+
     /// The step at a place where a body begins.
     pub fn step(&self, at: u32) -> &Step
         requires { HasBody self.now at }
