@@ -1,0 +1,85 @@
+//! Loops of the machine: a block that enters itself with one less, up to 0.
+
+ghost use Rattle.std.specs.Prelude.{◌≡◌};
+ghost use Rattle.m5_region.specs.Bench.{fresh_bench};
+
+use m5_machine::blocks::Blocks;
+use m5_machine::closure::entry;
+use m5_machine::link::link;
+use m5_machine::run::run_front;
+use m5_machine::step::{Instruction, Step};
+use m5_region::bench::Bench;
+use m5_region::out::Out;
+use m5_region::queue::Ready;
+use m5_region::value::Value;
+use std::alloc::{AllocError, Global};
+
+/// Adds what a turn does beside the counting; it fills slots from 4 on.
+fn put_work(steps: &mut Vec<Step>, kind: u8) -> Result<(), AllocError> {
+    match kind {
+        1 => {
+            for _ in 0..10 {
+                steps.push(Step::Fill(Instruction::Add(2, 3)))?;
+                steps.push(Step::Fill(Instruction::Mul(3, 3)))?;
+            }
+        }
+        2 => {
+            for _ in 0..10 {
+                steps.push(Step::Fill(Instruction::Field(0, 0)))?;
+            }
+        }
+        3 => {
+            for _ in 0..10 {
+                steps.push(Step::Fill(Instruction::Less(2, 3)))?;
+                steps.push(Step::Fill(Instruction::EqualInts(2, 3)))?;
+            }
+        }
+        _ => {}
+    }
+    Ok(())
+}
+
+/// The code of a loop: label 0 enters itself with its argument less one, while that is more than 0.
+fn code(alloc: Global, kind: u8) -> Result<Option<Blocks>, AllocError> {
+    let mut starts = Vec::new(alloc);
+    starts.push(0)?;
+    let mut steps = Vec::new(alloc);
+    steps.push(Step::Fill(Instruction::Int(1)))?;
+    steps.push(Step::Fill(Instruction::Sub(1, 2)))?;
+    steps.push(Step::Fill(Instruction::Less(2, 1)))?;
+    put_work(&mut steps, kind)?;
+    steps.push(Step::If(4, 0))?;
+    steps.push(Step::Go(0, 3))?;
+    steps.push(Step::Done)?;
+    link(alloc, starts, steps)
+}
+
+/// Runs a thread that enters label 0 with a number, in a bench of its own.
+fn run_from(code: &Blocks, bench: &mut Bench, turns: u32) -> Out
+    requires { bench.old ≡ fresh_bench 100 bench.old.fuel }
+{
+    let Some(at) = bench.region.add(&[Value::Int(0)]) else {
+        return Out::FullRegion;
+    };
+    let closure = Value::Array(at);
+    if entry(code, &bench.region, closure).is_none() {
+        return Out::FullTable;
+    }
+    let thread = Ready {
+        code: closure,
+        argument: Value::Int(turns as i64),
+    };
+    if !bench.threads.push(thread) {
+        return Out::FullTable;
+    }
+    run_front(code, bench)
+}
+
+/// Whether the loop of a kind ended after its turns.
+pub fn run(alloc: Global, kind: u8, turns: u32) -> Result<bool, AllocError> {
+    let Some(code) = code(alloc, kind)? else {
+        return Ok(false);
+    };
+    let mut bench = Bench::make(alloc, 100, turns as u64 + 1)?;
+    Ok(run_from(&code, &mut bench, turns) == Out::Ended)
+}
