@@ -1,13 +1,13 @@
 -- How long spellings are.
-use Rattle.std.proofs.Common.{◌≡◌, ℕ, zero, suc, ◌+◌, ◌*◌, ◌<◌, ◌≤◌, ◌^◌, ◌∙◌, List, [], ◌∷◌, ◌++◌, length, drop, refl, ap, sym, subst, arith, length-append, Option, Some, None, slice_get}
-use Rattle.std.specs.List.{flat_map, sum_by}
+use Rattle.std.proofs.Common.{◌≡◌, ℕ, zero, suc, ◌+◌, ◌*◌, ◌<◌, ◌≤◌, List, [], ◌∷◌, ◌++◌, length, drop, refl, arith, length-append}
+use Rattle.std.specs.List.{flat_map}
 use Rattle.std.proofs.lemmas.List.Sums.{sum_by-cons}
 use Rattle.m5_machine.specs.declared.step.Instruction.{Instruction}
 use Rattle.m5_machine.specs.declared.step.Step.{Step}
 use Rattle.m5_machine.specs.declared.step.Step.TheVariants as steps
-use Rattle.m5_machine.specs.Body.{Body, Then, If, Go, Ask, Send, Done, bodies, one, two as onto_two, onto}
+use Rattle.m5_machine.specs.Body.{Body, Then, If, bodies, one, two as onto_two, onto}
 use Rattle.m5_machine.specs.Blocks.{Flat, body_at, HasBody, first_or_done}
-use Rattle.m5_bytecode.specs.Spelling.{two, four, instruction_bytes, body_bytes}
+use Rattle.m5_bytecode.specs.Spelling.{two, instruction_bytes, body_bytes}
 use Rattle.m5_bytecode.specs.Code.{step_length, steps_length}
 
 pub twos_length : (xs : List ℕ) → length (flat_map two xs) ≡ 2 * length xs

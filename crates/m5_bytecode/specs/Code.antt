@@ -1,5 +1,5 @@
 -- Which blocks are a server's code.
-use Rattle.std.specs.Prelude.{◌≡◌, ℕ, ◌+◌, ◌<◌, ◌≤◌, ◌^◌, List, [], ◌∷◌, length, Bool, true, false, IsTrue, nat_lt, nat_le, ◌==◌, ◌&&◌, ◌||◌}
+use Rattle.std.specs.Prelude.{ℕ, ◌<◌, ◌≤◌, ◌^◌, List, length, Bool, true, false, IsTrue, nat_le, ◌==◌, ◌&&◌, ◌||◌}
 use Rattle.std.specs.List.{list_all, sum_by}
 use Rattle.m5_terms.specs.Text.{text_byte}
 use Rattle.m5_machine.specs.declared.step.Instruction.{Instruction}

@@ -1,11 +1,9 @@
 -- How a code is spelled by bytes. Numbers have the most significant byte first.
-use Rattle.std.specs.Prelude.{ℕ, ℤ, ◌+◌, List, [], ◌∷◌, ◌++◌, length, Bool, true, false, not, count_by, ◌==◌, if◌then◌else◌}
+use Rattle.std.specs.Prelude.{ℕ, ◌+◌, List, [], ◌∷◌, ◌++◌, length, Bool, true, false, not, count_by, ◌==◌, if◌then◌else◌}
 use Rattle.std.specs.List.{flat_map}
 use Rattle.std.specs.Int.{w16, w32, w64, to_be_bytes, cast_unsigned}
 use Rattle.m5_machine.specs.declared.step.Instruction.{Instruction}
 use Rattle.m5_machine.specs.declared.step.Instruction.TheVariants as i
-use Rattle.m5_machine.specs.declared.step.Step.{Step}
-use Rattle.m5_machine.specs.declared.step.Step.TheVariants as steps
 use Rattle.m5_machine.specs.Body.{Body, Then, If, Go, Ask, Send, Done}
 use Rattle.m5_machine.specs.Blocks.{Flat, body_at}
 

@@ -1,8 +1,8 @@
-use Rattle.std.proofs.Common.{◌≡◌, ◌+◌, ◌<◌, ◌≤◌, ◌^◌, ◌++◌, ◌∙◌, subst, sym, ap, arith, rules, length}
+use Rattle.std.proofs.Common.{◌+◌, ◌<◌, ◌∙◌, subst, arith}
 use Rattle.std.specs.Vec.{vec_len}
 use Rattle.m5_machine.specs.Blocks.{Shows, body_at}
 use Rattle.m5_machine.specs.code.Running.{size}
-use Rattle.m5_bytecode.specs.Spelling.{body_bytes, instruction_bytes}
+use Rattle.m5_bytecode.specs.Spelling.{body_bytes}
 use Rattle.m5_bytecode.proofs.Sizes.{body_length}
 use Rattle.m5_bytecode.proofs.Writing.{fill_bytes, instruction_within, length_set, length_small, if_bytes, fill_smaller, if_smaller, go_bytes, ask_bytes, send_bytes, done_bytes}
 use Rattle.m5_bytecode.proofs.encoding.+put_body.Goals as goal

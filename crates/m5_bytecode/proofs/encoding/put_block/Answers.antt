@@ -1,4 +1,4 @@
-use Rattle.std.proofs.Common.{◌≡◌, ◌<◌, ◌^◌, arith, length}
+use Rattle.std.proofs.Common.{arith}
 use Rattle.std.specs.Vec.{vec_len}
 use Rattle.m5_machine.specs.Blocks.{body_at}
 use Rattle.m5_bytecode.specs.Spelling.{body_bytes}

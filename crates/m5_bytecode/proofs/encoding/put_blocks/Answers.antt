@@ -1,4 +1,4 @@
-use Rattle.std.proofs.Common.{◌≡◌, arith, refl, sym, ap}
+use Rattle.std.proofs.Common.{arith, refl}
 use Rattle.m5_bytecode.proofs.Writing.{block_there}
 use Rattle.m5_bytecode.proofs.encoding.put_blocks.Goals as goal
 
