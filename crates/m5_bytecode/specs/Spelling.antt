@@ -44,7 +44,8 @@ instruction_bytes (i.Spawn s) = 0x13 ∷ two s
 -- instructions, and then an ending; an `If` tells how long its first body is
 unfoldable pub body_bytes : Body → List ℕ
 body_bytes (Then i b) = instruction_bytes i ++ body_bytes b
-body_bytes (If s a b) = 0x20 ∷ (two s ++ (four (length (body_bytes a)) ++ (body_bytes a ++ body_bytes b)))
+body_bytes (If s a b) =
+    0x20 ∷ (two s ++ (four (length (body_bytes a)) ++ (body_bytes a ++ body_bytes b)))
 body_bytes (Go closure value) = 0x21 ∷ (two closure ++ two value)
 body_bytes (Ask primitive argument next) = 0x22 ∷ primitive ∷ (two argument ++ two next)
 body_bytes (Send world closure value) = 0x23 ∷ world ∷ (two closure ++ two value)

@@ -10,7 +10,8 @@ use m5_machine::step::{Instruction, Step};
 use m5_terms::text::is_text;
 use std::marker::Model;
 
-/// The blocks of a server: its steps alone, at most 65,535 blocks, and fewer than 2^32 bytes in all.
+/// The blocks of a server: its steps alone, at most 65,535 blocks, and fewer than 2^32 bytes in
+/// all.
 #[derive(Drop)]
 pub struct Code {
     blocks: Blocks,

@@ -65,7 +65,8 @@ fn put_operands(out: &mut Vec<u8>, operands: &[u16]) -> Result<(), AllocError>
 /// Adds a text of fewer than 2^32 bytes.
 fn put_text(out: &mut Vec<u8>, bytes: &[u8]) -> Result<(), AllocError>
     requires { length bytes.now < 2 ^ 32 }
-    ensures { OnOk result (out.new.items ≡ out.old.items ++ (0x03 ∷ (four (length bytes.now) ++ bytes.now))) }
+    ensures { OnOk result (out.new.items
+        ≡ out.old.items ++ (0x03 ∷ (four (length bytes.now) ++ bytes.now))) }
 {
     out.push(0x03)?;
     put_four(out, bytes.len() as u32)?;

@@ -10,9 +10,9 @@ use m5_machine::run::run_front;
 use m5_region::bench::Bench;
 use m5_region::out::Out;
 
-/// Takes the front thread off and runs it up to an ask, a send, its end or a stop. A reference in a cell or a
-/// thread is to an object of its kind, and a thread's code is a closure of the code, before and after. It
-/// takes no memory, and returns.
+/// Takes the front thread off and runs it up to an ask, a send, its end or a stop. A reference in a
+/// cell or a thread is to an object of its kind, and a thread's code is a closure of the code,
+/// before and after. It takes no memory, and returns.
 pub fn run_home(js: &Js, bench: &mut Bench) -> Out
     requires sound { IsSound js.now bench.old }
     requires thread { 0 < length bench.old.threads }

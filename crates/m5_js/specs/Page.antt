@@ -8,8 +8,8 @@ use Rattle.m5_machine.specs.declared.step.Step.{Step}
 use Rattle.m5_machine.specs.declared.step.Step.TheVariants as steps
 use Rattle.m5_machine.specs.Blocks.{Flat, IsFlat}
 
--- a browser's instructions: no negative literal, a text as a program's may be, a place up to 65,534, and one
--- form of equality, `Same`
+-- a browser's instructions: no negative literal, a text as a program's may be, a place up to
+-- 65,534, and one form of equality, `Same`
 abbrev pub page_instruction : Instruction → Bool
 page_instruction i.Unit = true
 page_instruction (i.Bool b) = true
@@ -32,7 +32,8 @@ page_instruction (i.Load s) = true
 page_instruction (i.Store s v) = true
 page_instruction (i.Spawn s) = true
 
--- a browser asks say, set_text, get_text, on and show, codes 0 to 3 and 7, and sends to any world, 0 to 2
+-- a browser asks say, set_text, get_text, on and show, codes 0 to 3 and 7, and sends to any world,
+-- 0 to 2
 abbrev pub page_step : Step → Bool
 page_step (steps.Fill i) = page_instruction i
 page_step (steps.If slot place) = true

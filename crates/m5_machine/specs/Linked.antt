@@ -17,7 +17,8 @@ erased steps.Done = steps.Done
 -- a body begins at each step, and a block at each start
 pub record CanLink (starts : List ℕ) (ss : List Step) : Type 0 where
   pub complete : (at : ℕ) → at < length ss → 0 < length (bodies (drop at ss))
-  pub begin : (label start : ℕ) → start_of (record { starts = starts; steps = ss }) label ≡ Some start → BeginsBlock (record { starts = starts; steps = ss }) start
+  pub begin : (label start : ℕ) →
+      start_of (record { starts = starts; steps = ss }) label ≡ Some start → BeginsBlock (record { starts = starts; steps = ss }) start
   pub small : length ss < 4294967295
 
 -- blocks with these starts, whose steps are these but for the places of second bodies

@@ -9,8 +9,8 @@ use std::marker::Model;
 /// No block has the label, where this stands for the place at which one begins.
 pub const NO_BLOCK: u32 = 0xffff_ffff;
 
-/// Blocks by label, each a tree of instructions and endings. A block's steps stand in the order in which
-/// they are written, an `If` before its two bodies.
+/// Blocks by label, each a tree of instructions and endings. A block's steps stand in the order in
+/// which they are written, an `If` before its two bodies.
 #[derive(Drop)]
 pub struct Blocks {
     starts: Vec<u32>,

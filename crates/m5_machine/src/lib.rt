@@ -1,4 +1,5 @@
-//! What the two target machines share: instructions, blocks in one flat list, and the run of a thread.
+//! What the two target machines share: instructions, blocks in one flat list, and the run of a
+//! thread.
 #![tactic(auto)]
 
 mod arrays;

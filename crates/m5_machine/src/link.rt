@@ -1,4 +1,5 @@
-//! Steps made into blocks: the place of each `If`'s second body is set, and each block is looked at.
+//! Steps made into blocks: the place of each `If`'s second body is set, and each block is looked
+//! at.
 
 ghost use Rattle.std.specs.Prelude.{◌≡◌, ◌+◌, ◌<◌, ◌≤◌, ◌^◌, length, map, IfOk, IfSome, IfNone, MatchOption, slice_get};
 ghost use Rattle.m5_machine.specs.Linked.{erased, CanLink, IsLinked};
@@ -33,8 +34,8 @@ fn known(steps: &[Step], shapes: &[Shape], at: usize) -> Shape
     shapes[steps.len() - 1 - at]
 }
 
-/// The body that begins at a step, where those behind it are known, the last step's first; none where the
-/// steps end before it does.
+/// The body that begins at a step, where those behind it are known, the last step's first; none
+/// where the steps end before it does.
 fn shape_at(steps: &[Step], shapes: &[Shape], at: usize) -> Option<Shape>
     requires shapes { HasShapes steps.now shapes.now }
     requires here { at + length shapes.now + 1 ≡ length steps.now }
@@ -153,8 +154,8 @@ fn starts_fit(shapes: &[Shape], starts: &[u32]) -> bool
     starts.iter().all(|start| start_fits(shapes, *start))
 }
 
-/// The blocks that begin at these places of these steps, each `If` with the place of its second body; none
-/// where a body does not end, or where at a place no block may begin.
+/// The blocks that begin at these places of these steps, each `If` with the place of its second
+/// body; none where a body does not end, or where at a place no block may begin.
 pub fn link(alloc: Global, starts: Vec<u32>, steps: Vec<Step>) -> Result<Option<Blocks>, AllocError>
     ensures some { IfOk result (λ o. IfSome o (IsLinked starts.items steps.items)) }
     ensures none { IfOk result (λ o. IfNone o (CanLink starts.items steps.items → ⊥)) }

@@ -35,7 +35,8 @@ fn enter(code: &Code, bench: &mut Bench) -> Option<Out>
     Some(run_server(code, bench))
 }
 
-/// How the code of these steps ends, whose label 0 begins at the first, with so many units and so much fuel.
+/// How the code of these steps ends, whose label 0 begins at the first, with so many units and so
+/// much fuel.
 fn ends(alloc: Global, steps: Vec<Step>, units: u64, fuel: u64) -> Result<Out, Fail>
     requires { units ≤ 1000 }
 {

@@ -1,7 +1,7 @@
 //! Times a region's calls, and loops of the machine.
 //!
-//! Its argument is how many turns each loop takes. What the loops came to goes to standard output, and the
-//! times to standard error, as lines of a name, how much was done, and nanoseconds.
+//! Its argument is how many turns each loop takes. What the loops came to goes to standard output,
+//! and the times to standard error, as lines of a name, how much was done, and nanoseconds.
 #![tactic(auto)]
 
 mod loops;

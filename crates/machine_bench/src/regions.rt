@@ -17,8 +17,8 @@ pub fn make_largest(alloc: Global) -> usize {
     regions.len()
 }
 
-/// How many arrays of three fields were added, two of which are read each time; the region begins again
-/// where it is full.
+/// How many arrays of three fields were added, two of which are read each time; the region begins
+/// again where it is full.
 pub fn add_and_read(alloc: Global, turns: u32) -> u32 {
     let Ok(mut region) = Region::make(alloc, 1_048_640) else {
         return 0;

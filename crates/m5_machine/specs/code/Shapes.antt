@@ -35,11 +35,13 @@ with_place steps.Done place = steps.Done
 
 -- the step there, with that place
 abbrev pub SetsPlace : List Step → ℕ → ℕ → List Step → Type 0
-SetsPlace old at place new = (s : Step) → slice_get old at ≡ Some s → new ≡ slice_set old at (with_place s place)
+SetsPlace old at place new =
+    (s : Step) → slice_get old at ≡ Some s → new ≡ slice_set old at (with_place s place)
 
 -- each `If` names the place of its second body
 pub record PlacesSet (old new : List Step) : Type 0 where
-  pub second : (at slot place : ℕ) → at + 1 < length old → slice_get new at ≡ Some (steps.If slot place) → bodies (drop place old) ≡ all_but_first (bodies (drop (at + 1) old))
+  pub second : (at slot place : ℕ) → at + 1 < length old →
+      slice_get new at ≡ Some (steps.If slot place) → bodies (drop place old) ≡ all_but_first (bodies (drop (at + 1) old))
 
 -- a body that a block may have
 abbrev pub shape_fits : Option Shape → Bool
