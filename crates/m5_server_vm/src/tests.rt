@@ -48,145 +48,93 @@ fn ends(alloc: Global, steps: Vec<Step>, units: u64, fuel: u64) -> Result<Out, F
     Ok(enter(&code, &mut bench).ok_or("no thread")?)
 }
 
+/// The instruction that makes a text.
 fn text(alloc: Global, bytes: &[u8]) -> Result<Step, Fail> {
     let held = Vec::from_slice(alloc, bytes)?;
     Ok(Step::Fill(Instruction::Text(TextBytes::of(held))))
 }
 
+/// A send home of a value, by the block of label 0.
+fn sent(argument: Value) -> Out {
+    Out::Sends {
+        to: 0,
+        code: Value::Array(Ref(0)),
+        argument,
+        label: 0,
+    }
+}
+
 #[test]
-fn asks_with_a_text_and_a_closure(rt: HostRuntime) -> Result<(), Fail> {
-    let mut steps = Vec::new(rt.alloc());
-    steps.push(text(rt.alloc(), b"key")?)?;
-    steps.push(Step::Ask(4, 2, 0))?;
-    let out = ends(rt.alloc(), steps, 100, 1)?;
+fn asks_with_what_the_primitive_takes(rt: HostRuntime) -> Result<(), Fail> {
+    let alloc = rt.alloc();
+    let key = text(alloc, b"key")?;
+    let out = ends(alloc, vec![in alloc; key, Step::Ask(4, 2, 0)]?, 100, 1)?;
     let asks = Out::Asks {
         prim: 4,
         argument: Value::Text(Ref(1)),
         next: Value::Array(Ref(0)),
     };
     assert_eq!(rt; out, asks);
-    Ok(())
-}
-
-#[test]
-fn an_ask_of_no_text_is_wrong(rt: HostRuntime) -> Result<(), Fail> {
-    let mut steps = Vec::new(rt.alloc());
-    steps.push(Step::Ask(4, 1, 0))?;
-    assert_eq!(rt; ends(rt.alloc(), steps, 100, 1)?, Out::Wrong(0));
-    Ok(())
-}
-
-#[test]
-fn a_write_takes_an_array_of_two_texts(rt: HostRuntime) -> Result<(), Fail> {
-    let mut steps = Vec::new(rt.alloc());
-    steps.push(text(rt.alloc(), b"k")?)?;
-    steps.push(Step::Ask(5, 2, 0))?;
-    assert_eq!(rt; ends(rt.alloc(), steps, 100, 1)?, Out::Wrong(0));
-    Ok(())
-}
-
-#[test]
-fn sends_with_the_label_of_its_block(rt: HostRuntime) -> Result<(), Fail> {
-    let mut steps = Vec::new(rt.alloc());
-    steps.push(Step::Fill(Instruction::Int(-3)))?;
-    steps.push(Step::Send(2, 0, 2))?;
-    let sends = Out::Sends {
-        to: 2,
-        code: Value::Array(Ref(0)),
-        argument: Value::Int(-3),
-        label: 0,
-    };
-    assert_eq!(rt; ends(rt.alloc(), steps, 100, 1)?, sends);
-    Ok(())
-}
-
-#[test]
-fn a_block_that_enters_itself_spends_the_fuel(rt: HostRuntime) -> Result<(), Fail> {
-    let mut steps = Vec::new(rt.alloc());
-    steps.push(Step::Go(0, 1))?;
-    assert_eq!(rt; ends(rt.alloc(), steps, 100, 1000)?, Out::Spent);
-    Ok(())
-}
-
-#[test]
-fn a_go_to_no_closure_is_wrong_without_fuel_too(rt: HostRuntime) -> Result<(), Fail> {
-    let mut steps = Vec::new(rt.alloc());
-    steps.push(Step::Go(1, 1))?;
-    assert_eq!(rt; ends(rt.alloc(), steps, 100, 1)?, Out::Wrong(0));
-    Ok(())
-}
-
-#[test]
-fn a_cat_of_no_text_is_wrong_in_a_full_region_too(rt: HostRuntime) -> Result<(), Fail> {
-    let mut steps = Vec::new(rt.alloc());
-    steps.push(Step::Fill(Instruction::Cat(0, 1)))?;
-    steps.push(Step::Done)?;
-    assert_eq!(rt; ends(rt.alloc(), steps, 2, 1)?, Out::Wrong(0));
-    Ok(())
-}
-
-#[test]
-fn a_text_that_does_not_fit_fills_the_region(rt: HostRuntime) -> Result<(), Fail> {
-    let mut steps = Vec::new(rt.alloc());
-    steps.push(text(rt.alloc(), b"nine byte")?)?;
-    steps.push(Step::Done)?;
-    assert_eq!(rt; ends(rt.alloc(), steps, 4, 1)?, Out::FullRegion);
-    Ok(())
-}
-
-#[test]
-fn a_number_divided_by_nought_is_wrong(rt: HostRuntime) -> Result<(), Fail> {
-    let mut steps = Vec::new(rt.alloc());
-    steps.push(Step::Fill(Instruction::Int(-7)))?;
-    steps.push(Step::Fill(Instruction::Int(2)))?;
-    steps.push(Step::Fill(Instruction::Quo(2, 3)))?;
-    steps.push(Step::Fill(Instruction::Int(0)))?;
-    steps.push(Step::Fill(Instruction::Quo(2, 5)))?;
-    steps.push(Step::Done)?;
-    assert_eq!(rt; ends(rt.alloc(), steps, 100, 1)?, Out::Wrong(0));
+    let out = ends(alloc, vec![in alloc; Step::Ask(4, 1, 0)]?, 100, 1)?;
+    assert_eq!(rt; out, Out::Wrong(0), "a read of no text");
+    let key = text(alloc, b"k")?;
+    let out = ends(alloc, vec![in alloc; key, Step::Ask(5, 2, 0)]?, 100, 1)?;
+    assert_eq!(rt; out, Out::Wrong(0), "a write of no array");
     Ok(())
 }
 
 #[test]
 fn a_quotient_is_rounded_towards_nought(rt: HostRuntime) -> Result<(), Fail> {
-    let mut steps = Vec::new(rt.alloc());
-    steps.push(Step::Fill(Instruction::Int(-7)))?;
-    steps.push(Step::Fill(Instruction::Int(2)))?;
-    steps.push(Step::Fill(Instruction::Quo(2, 3)))?;
-    steps.push(Step::Send(0, 0, 4))?;
-    let sends = Out::Sends {
-        to: 0,
-        code: Value::Array(Ref(0)),
-        argument: Value::Int(-3),
-        label: 0,
-    };
-    assert_eq!(rt; ends(rt.alloc(), steps, 100, 1)?, sends);
+    let alloc = rt.alloc();
+    let seven = Step::Fill(Instruction::Int(-7));
+    let two = Step::Fill(Instruction::Int(2));
+    let quotient = Step::Fill(Instruction::Quo(2, 3));
+    let steps = vec![in alloc; seven, two, quotient, Step::Send(0, 0, 4)]?;
+    assert_eq!(rt; ends(alloc, steps, 100, 1)?, sent(Value::Int(-3)));
+    let nought = Step::Fill(Instruction::Int(0));
+    let quotient = Step::Fill(Instruction::Quo(2, 2));
+    let steps = vec![in alloc; nought, quotient, Step::Done]?;
+    assert_eq!(rt; ends(alloc, steps, 100, 1)?, Out::Wrong(0));
     Ok(())
 }
 
 #[test]
 fn a_cell_holds_what_was_stored(rt: HostRuntime) -> Result<(), Fail> {
-    let mut steps = Vec::new(rt.alloc());
-    steps.push(Step::Fill(Instruction::Cell(1)))?;
-    steps.push(Step::Fill(Instruction::Bool(true)))?;
-    steps.push(Step::Fill(Instruction::Store(2, 3)))?;
-    steps.push(Step::Fill(Instruction::Load(2)))?;
-    steps.push(Step::Send(0, 0, 5))?;
-    let sends = Out::Sends {
-        to: 0,
-        code: Value::Array(Ref(0)),
-        argument: Value::Bool(true),
-        label: 0,
-    };
-    assert_eq!(rt; ends(rt.alloc(), steps, 100, 1)?, sends);
+    let alloc = rt.alloc();
+    let cell = Step::Fill(Instruction::Cell(1));
+    let truth = Step::Fill(Instruction::Bool(true));
+    let store = Step::Fill(Instruction::Store(2, 3));
+    let load = Step::Fill(Instruction::Load(2));
+    let steps = vec![in alloc; cell, truth, store, load, Step::Send(0, 0, 5)]?;
+    assert_eq!(rt; ends(alloc, steps, 100, 1)?, sent(Value::Bool(true)));
     Ok(())
 }
 
 #[test]
-fn spawns_up_to_a_full_table(rt: HostRuntime) -> Result<(), Fail> {
-    let mut steps = Vec::new(rt.alloc());
-    steps.push(Step::Fill(Instruction::Spawn(0)))?;
-    steps.push(Step::Go(0, 1))?;
-    assert_eq!(rt; ends(rt.alloc(), steps, 100, 5000)?, Out::FullTable);
+fn what_is_needed_is_looked_at_before_room(rt: HostRuntime) -> Result<(), Fail> {
+    let alloc = rt.alloc();
+    let again = vec![in alloc; Step::Go(0, 1)]?;
+    assert_eq!(rt; ends(alloc, again, 100, 1000)?, Out::Spent);
+    let nowhere = vec![in alloc; Step::Go(1, 1)]?;
+    assert_eq!(rt;
+        ends(alloc, nowhere, 100, 1)?,
+        Out::Wrong(0),
+        "a go to null without fuel"
+    );
+    let long = text(alloc, b"nine byte")?;
+    assert_eq!(rt;
+        ends(alloc, vec![in alloc; long, Step::Done]?, 4, 1)?,
+        Out::FullRegion
+    );
+    let join = Step::Fill(Instruction::Cat(0, 1));
+    let steps = vec![in alloc; join, Step::Done]?;
+    assert_eq!(rt;
+        ends(alloc, steps, 2, 1)?,
+        Out::Wrong(0),
+        "no texts in a full region"
+    );
+    let spawn = Step::Fill(Instruction::Spawn(0));
+    let steps = vec![in alloc; spawn, Step::Go(0, 1)]?;
+    assert_eq!(rt; ends(alloc, steps, 100, 5000)?, Out::FullTable);
     Ok(())
 }
