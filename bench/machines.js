@@ -6,6 +6,8 @@ const work = [
   (e, a, n, m) => { for (let i = 0; i < 10; i++) { const x = wrap(n + m); const y = wrap(m * m); if (x === y) kept = x; } },
   (e) => { for (let i = 0; i < 10; i++) { const x = e[0]; if (x === 1n) kept = x; } },
   (e, a, n, m) => { for (let i = 0; i < 10; i++) { const x = n < m; const y = n === m; if (x === y) kept = n; } },
+  (e, a, n, m) => { const pair = [n, m]; const x = pair[0]; const y = pair[1]; if (x === y) kept = pair; },
+  (e, a, n, m) => { const x = String(m); const y = x + x; if (x === y) kept = y; },
 ];
 let kept = null;
 let next = null;

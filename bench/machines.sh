@@ -1,5 +1,5 @@
 #!/bin/sh
-# Times making 96 regions of the largest size, adding and reading arrays, and four loops of the machine, beside the same loops in node where the machine has it, in one run of the program machine_bench.
+# Times making 96 regions of the largest size, adding and reading arrays, and six loops of the machine (counting; sums and products; fields; comparisons; pairs; texts), beside the same loops in node where the machine has it, in one run of the program machine_bench.
 # Usage: bench/machines.sh [TURNS], where each loop takes so many turns, 1,000,000 if none are given.
 # The program is the one that `rt run` in crates/machine_bench, or the gate, has built there.
 set -eu
@@ -22,7 +22,7 @@ if command -v node >/dev/null; then
 fi
 awk -v turns="$turns" '
     # steps of one turn: a number, a difference, a comparison, an if and a go, and what the loop adds
-    BEGIN { steps["loop0"] = 5; steps["loop1"] = 25; steps["loop2"] = 15; steps["loop3"] = 25 }
+    BEGIN { steps["loop0"] = 5; steps["loop1"] = 25; steps["loop2"] = 15; steps["loop3"] = 25; steps["loop4"] = 8; steps["loop5"] = 7 }
     $1 == "make" { printf "96 regions made in %.3f ms\n", $3 / 1e6 }
     $1 == "add" { printf "an array of three fields added and two read: %.1f ns\n", $3 / turns }
     $1 == "peak" { printf "peak memory: %d KB\n", $3 }

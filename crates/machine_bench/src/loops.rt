@@ -6,16 +6,18 @@ ghost use Rattle.m5_region.specs.Bench.{fresh_bench};
 use m5_machine::blocks::Blocks;
 use m5_machine::closure::entry;
 use m5_machine::link::link;
+use m5_machine::listed::Operands;
 use m5_machine::run::run_front;
 use m5_machine::step::{Instruction, Step};
 use m5_region::bench::Bench;
+use m5_region::limits::MOST_UNITS;
 use m5_region::out::Out;
 use m5_region::queue::Ready;
 use m5_region::value::Value;
 use std::alloc::{AllocError, Global};
 
-/// Adds what a turn does beside the counting; it fills slots from 4 on.
-fn put_work(steps: &mut Vec<Step>, kind: u8) -> Result<(), AllocError> {
+/// Adds what a turn does beside the counting; it fills slots from 5 on.
+fn put_work(alloc: Global, steps: &mut Vec<Step>, kind: u8) -> Result<(), AllocError> {
     match kind {
         1 => {
             for _ in 0..10 {
@@ -34,6 +36,16 @@ fn put_work(steps: &mut Vec<Step>, kind: u8) -> Result<(), AllocError> {
                 steps.push(Step::Fill(Instruction::EqualInts(2, 3)))?;
             }
         }
+        4 => {
+            let fields = vec![in alloc; 2, 3]?;
+            steps.push(Step::Fill(Instruction::Array(Operands::of(fields))))?;
+            steps.push(Step::Fill(Instruction::Field(5, 0)))?;
+            steps.push(Step::Fill(Instruction::Field(5, 1)))?;
+        }
+        5 => {
+            steps.push(Step::Fill(Instruction::Str(3)))?;
+            steps.push(Step::Fill(Instruction::Cat(5, 5)))?;
+        }
         _ => {}
     }
     Ok(())
@@ -47,7 +59,7 @@ fn code(alloc: Global, kind: u8) -> Result<Option<Blocks>, AllocError> {
     steps.push(Step::Fill(Instruction::Int(1)))?;
     steps.push(Step::Fill(Instruction::Sub(1, 2)))?;
     steps.push(Step::Fill(Instruction::Less(2, 1)))?;
-    put_work(&mut steps, kind)?;
+    put_work(alloc, &mut steps, kind)?;
     steps.push(Step::If(4, 0))?;
     steps.push(Step::Go(0, 3))?;
     steps.push(Step::Done)?;
@@ -56,7 +68,7 @@ fn code(alloc: Global, kind: u8) -> Result<Option<Blocks>, AllocError> {
 
 /// Runs a thread that enters label 0 with a number, in a bench of its own.
 fn run_from(code: &Blocks, bench: &mut Bench, turns: u32) -> Out
-    requires { bench.old ≡ fresh_bench 100 bench.old.fuel }
+    requires { bench.old ≡ fresh_bench bench.old.region.left bench.old.fuel }
 {
     let Some(at) = bench.region.add(&[Value::Int(0)]) else {
         return Out::FullRegion;
@@ -75,11 +87,24 @@ fn run_from(code: &Blocks, bench: &mut Bench, turns: u32) -> Out
     run_front(code, bench)
 }
 
-/// Whether the loop of a kind ended after its turns.
+/// The most turns that a region of the largest size has units for, whatever a turn does.
+const MOST_TURNS: u32 = 150_000;
+
+/// Whether the loop ended after so many turns, in a bench with the largest region.
+fn ends(alloc: Global, code: &Blocks, turns: u32) -> Result<bool, AllocError> {
+    let mut bench = Bench::make(alloc, MOST_UNITS, turns as u64 + 1)?;
+    Ok(run_from(code, &mut bench, turns) == Out::Ended)
+}
+
+/// Whether the loop of a kind ended after its turns, made in benches one after the other.
 pub fn run(alloc: Global, kind: u8, turns: u32) -> Result<bool, AllocError> {
     let Some(code) = code(alloc, kind)? else {
         return Ok(false);
     };
-    let mut bench = Bench::make(alloc, 100, turns as u64 + 1)?;
-    Ok(run_from(&code, &mut bench, turns) == Out::Ended)
+    for _ in 0..turns / MOST_TURNS {
+        if !ends(alloc, &code, MOST_TURNS)? {
+            return Ok(false);
+        }
+    }
+    ends(alloc, &code, turns % MOST_TURNS)
 }

@@ -27,7 +27,7 @@ fn main(rt: HostRuntime) -> io::Result<()> {
     let time = start.elapsed(&rt)?.as_nanos();
     println!(rt; "added {added}")?;
     eprintln!(rt; "add {added} {time}")?;
-    for kind in [0, 1, 2, 3] {
+    for kind in [0, 1, 2, 3, 4, 5] {
         let start = Instant::now(&rt)?;
         let ended = loops::run(rt.alloc(), kind, turns)?;
         let time = start.elapsed(&rt)?.as_nanos();
