@@ -1,11 +1,11 @@
 -- How long spellings are.
-use Rattle.std.proofs.Common.{◌≡◌, ℕ, zero, suc, ◌+◌, ◌*◌, ◌<◌, ◌≤◌, List, [], ◌∷◌, ◌++◌, length, drop, refl, arith, length-append}
+use Rattle.std.proofs.Common.{ap, ◌∙◌, ◌≡◌, ℕ, zero, suc, ◌+◌, ◌*◌, ◌<◌, ◌≤◌, List, [], ◌∷◌, ◌++◌, length, drop, refl, arith, length-append}
 use Rattle.std.specs.List.{flat_map}
 use Rattle.std.proofs.lemmas.List.Sums.{sum_by-cons}
 use Rattle.m5_machine.specs.declared.step.Instruction.{Instruction}
 use Rattle.m5_machine.specs.declared.step.Step.{Step}
 use Rattle.m5_machine.specs.declared.step.Step.TheVariants as steps
-use Rattle.m5_machine.specs.Body.{Body, Then, If, bodies, one, two as onto_two, onto}
+use Rattle.m5_machine.specs.Body.{Body, Then, If, bodies, one, two as onto_two, onto, Go, Ask, Send, Done}
 use Rattle.m5_machine.specs.Blocks.{Flat, body_at, HasBody, first_or_done}
 use Rattle.m5_bytecode.specs.Spelling.{two, instruction_bytes, body_bytes}
 use Rattle.m5_bytecode.specs.Code.{step_length, steps_length}
@@ -59,3 +59,27 @@ first_length (b ∷ bs) h = omega (arith, length-append (body_bytes b) (flat_map
 pub body_length : (code : Flat) (at : ℕ) → HasBody code at → length (body_bytes (body_at code at)) ≤ steps_length code.steps
 unfolding HasBody body_at
 body_length code at h = omega (arith, first_length (bodies (drop at code.steps)) h, all_length (drop at code.steps), drop_length at code.steps)
+
+pub fill_len : (i : Instruction) (here next : Body) → here ≡ Then i next → length (body_bytes here) ≡ length (instruction_bytes i) + length (body_bytes next)
+unfolding body_bytes
+fill_len i here next e = ap (λ (b : Body). length (body_bytes b)) e ∙ length-append (instruction_bytes i) (body_bytes next)
+
+pub if_len : (s : ℕ) (here a b : Body) → here ≡ If s a b → length (body_bytes here) ≡ 7 + length (body_bytes a) + length (body_bytes b)
+unfolding body_bytes
+if_len s here a b e = ap (λ (x : Body). length (body_bytes x)) e ∙ omega (arith, length-append (body_bytes a) (body_bytes b))
+
+pub go_len : (c v : ℕ) (here : Body) → here ≡ Go c v → length (body_bytes here) ≡ 5
+unfolding body_bytes
+go_len c v here e = ap (λ (x : Body). length (body_bytes x)) e
+
+pub ask_len : (p a n : ℕ) (here : Body) → here ≡ Ask p a n → length (body_bytes here) ≡ 6
+unfolding body_bytes
+ask_len p a n here e = ap (λ (x : Body). length (body_bytes x)) e
+
+pub send_len : (w c v : ℕ) (here : Body) → here ≡ Send w c v → length (body_bytes here) ≡ 6
+unfolding body_bytes
+send_len w c v here e = ap (λ (x : Body). length (body_bytes x)) e
+
+pub done_len : (here : Body) → here ≡ Done → length (body_bytes here) ≡ 1
+unfolding body_bytes
+done_len here e = ap (λ (x : Body). length (body_bytes x)) e

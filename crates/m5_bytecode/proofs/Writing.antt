@@ -7,7 +7,7 @@ use Rattle.m5_machine.specs.declared.step.Instruction.{Instruction}
 use Rattle.m5_machine.specs.Body.{Body, Then, If, Go, Ask, Send, Done}
 use Rattle.m5_machine.specs.Blocks.{Flat, IsFlat, body_at, HasBody, start_in}
 use Rattle.m5_machine.specs.code.Running.{size}
-use Rattle.m5_bytecode.specs.Spelling.{two, four, instruction_bytes, body_bytes, block_bytes, blocks_bytes, has_block}
+use Rattle.m5_bytecode.specs.Spelling.{two, four, instruction_bytes, body_bytes, block_bytes, has_block, each_block}
 
 pub fill_bytes : (out new : List ℕ) (i : Instruction) (here next : Body) → here ≡ Then i next → new ≡ out ++ instruction_bytes i → new ++ body_bytes next ≡ out ++ body_bytes here
 unfolding body_bytes
@@ -79,22 +79,22 @@ pub block_whole : (o0 o1 o4 : List ℕ) (label : ℕ) (b : Body) → o1 ≡ o0 +
 block_whole o0 o1 o4 label b e f = f ∙ ap (λ (x : List ℕ). x ++ (four (length (body_bytes b)) ++ body_bytes b)) e ∙ append_assoc o0 (two label) (four (length (body_bytes b)) ++ body_bytes b)
 
 -- one label more
-blocks_next : (code : Flat) (from : ℕ) (starts : List ℕ) (i : ℕ) → i < length starts → blocks_bytes code from (drop i starts) ≡ (if has_block (get_or starts i 0) then block_bytes from (body_at code (get_or starts i 0)) ++ blocks_bytes code (from + 1) (drop (suc i) starts) else blocks_bytes code (from + 1) (drop (suc i) starts))
-blocks_next code from [] i h = absurd (omega arith)
-blocks_next code from (s ∷ ss) zero h = refl
-blocks_next code from (s ∷ ss) (suc i) h = blocks_next code from ss i (omega arith)
+blocks_next : (f : ℕ → Body → List ℕ) (code : Flat) (from : ℕ) (starts : List ℕ) (i : ℕ) → i < length starts → each_block f code from (drop i starts) ≡ (if has_block (get_or starts i 0) then f from (body_at code (get_or starts i 0)) ++ each_block f code (from + 1) (drop (suc i) starts) else each_block f code (from + 1) (drop (suc i) starts))
+blocks_next f code from [] i h = absurd (omega arith)
+blocks_next f code from (s ∷ ss) zero h = refl
+blocks_next f code from (s ∷ ss) (suc i) h = blocks_next f code from ss i (omega arith)
 
-blocks_more : (code : Flat) (from : ℕ) (starts : List ℕ) (i : ℕ) → i < length starts → blocks_bytes code from (drop i starts) ≡ (if has_block (get_or starts i 0) then block_bytes from (body_at code (get_or starts i 0)) ++ blocks_bytes code (from + 1) (drop (i + 1) starts) else blocks_bytes code (from + 1) (drop (i + 1) starts))
-blocks_more code from starts i h = subst (λ (n : ℕ). blocks_bytes code from (drop i starts) ≡ (if has_block (get_or starts i 0) then block_bytes from (body_at code (get_or starts i 0)) ++ blocks_bytes code (from + 1) (drop n starts) else blocks_bytes code (from + 1) (drop n starts))) (let e : suc i ≡ i + 1 = omega arith in e) (blocks_next code from starts i h)
+blocks_more : (f : ℕ → Body → List ℕ) (code : Flat) (from : ℕ) (starts : List ℕ) (i : ℕ) → i < length starts → each_block f code from (drop i starts) ≡ (if has_block (get_or starts i 0) then f from (body_at code (get_or starts i 0)) ++ each_block f code (from + 1) (drop (i + 1) starts) else each_block f code (from + 1) (drop (i + 1) starts))
+blocks_more f code from starts i h = subst (λ (n : ℕ). each_block f code from (drop i starts) ≡ (if has_block (get_or starts i 0) then f from (body_at code (get_or starts i 0)) ++ each_block f code (from + 1) (drop n starts) else each_block f code (from + 1) (drop n starts))) (let e : suc i ≡ i + 1 = omega arith in e) (blocks_next f code from starts i h)
 
-no_blocks : (code : Flat) (n i : ℕ) (starts : List ℕ) → length starts ≤ i → blocks_bytes code n (drop i starts) ≡ []
-no_blocks code n zero [] h = refl
-no_blocks code n (suc i) [] h = refl
-no_blocks code n zero (s ∷ ss) h = absurd (omega arith)
-no_blocks code n (suc i) (s ∷ ss) h = no_blocks code n i ss (omega arith)
+no_blocks : (f : ℕ → Body → List ℕ) (code : Flat) (n i : ℕ) (starts : List ℕ) → length starts ≤ i → each_block f code n (drop i starts) ≡ []
+no_blocks f code n zero [] h = refl
+no_blocks f code n (suc i) [] h = refl
+no_blocks f code n zero (s ∷ ss) h = absurd (omega arith)
+no_blocks f code n (suc i) (s ∷ ss) h = no_blocks f code n i ss (omega arith)
 
-pub all_blocks : (code : Flat) (out : List ℕ) (n i : ℕ) (starts whole : List ℕ) → length starts ≤ i → out ++ blocks_bytes code n (drop i starts) ≡ whole → out ≡ whole
-all_blocks code out n i starts whole h e = sym (append-nil out) ∙ ap (λ (x : List ℕ). out ++ x) (sym (no_blocks code n i starts h)) ∙ e
+pub all_blocks : (f : ℕ → Body → List ℕ) (code : Flat) (out : List ℕ) (n i : ℕ) (starts whole : List ℕ) → length starts ≤ i → out ++ each_block f code n (drop i starts) ≡ whole → out ≡ whole
+all_blocks f code out n i starts whole h e = sym (append-nil out) ∙ ap (λ (x : List ℕ). out ++ x) (sym (no_blocks f code n i starts h)) ∙ e
 
 none_here : (s : ℕ) → s ≡ 4294967295 → has_block s ≡ false
 none_here s e = rw e refl
@@ -102,17 +102,17 @@ none_here s e = rw e refl
 some_here : (s : ℕ) → (s ≡ 4294967295 → ⊥) → has_block s ≡ true
 some_here s h = rw (ne_eqb s 4294967295 h) refl
 
-pub block_written : (code : Flat) (o0 o1 : List ℕ) (starts : List ℕ) (i s : ℕ) → i < length starts → s ≡ get_or starts i 0 → (s ≡ 4294967295 → ⊥) → o1 ≡ o0 ++ block_bytes i (body_at code s) → o1 ++ blocks_bytes code (i + 1) (drop (i + 1) starts) ≡ o0 ++ blocks_bytes code i (drop i starts)
-block_written code o0 o1 starts i s h e n f =
-    let rest = blocks_bytes code (i + 1) (drop (i + 1) starts) in
-    let here : blocks_bytes code i (drop i starts) ≡ block_bytes i (body_at code s) ++ rest =
-    blocks_more code i starts i h ∙ ap (λ (k : ℕ). if has_block k then block_bytes i (body_at code k) ++ rest else rest) (sym e) ∙ ap (λ (b : Bool). if b then block_bytes i (body_at code s) ++ rest else rest) (some_here s n) in
-    ap (λ (x : List ℕ). x ++ rest) f ∙ append_assoc o0 (block_bytes i (body_at code s)) rest ∙ ap (λ (x : List ℕ). o0 ++ x) (sym here)
+pub block_written : (f : ℕ → Body → List ℕ) (code : Flat) (o0 o1 : List ℕ) (starts : List ℕ) (i s : ℕ) → i < length starts → s ≡ get_or starts i 0 → (s ≡ 4294967295 → ⊥) → o1 ≡ o0 ++ f i (body_at code s) → o1 ++ each_block f code (i + 1) (drop (i + 1) starts) ≡ o0 ++ each_block f code i (drop i starts)
+block_written f code o0 o1 starts i s h e n g =
+    let rest = each_block f code (i + 1) (drop (i + 1) starts) in
+    let here : each_block f code i (drop i starts) ≡ f i (body_at code s) ++ rest =
+    blocks_more f code i starts i h ∙ ap (λ (k : ℕ). if has_block k then f i (body_at code k) ++ rest else rest) (sym e) ∙ ap (λ (b : Bool). if b then f i (body_at code s) ++ rest else rest) (some_here s n) in
+    ap (λ (x : List ℕ). x ++ rest) g ∙ append_assoc o0 (f i (body_at code s)) rest ∙ ap (λ (x : List ℕ). o0 ++ x) (sym here)
 
-pub no_block_written : (code : Flat) (o0 : List ℕ) (starts : List ℕ) (i s : ℕ) → i < length starts → s ≡ get_or starts i 0 → s ≡ 4294967295 → o0 ++ blocks_bytes code (i + 1) (drop (i + 1) starts) ≡ o0 ++ blocks_bytes code i (drop i starts)
-no_block_written code o0 starts i s h e n =
-    let rest = blocks_bytes code (i + 1) (drop (i + 1) starts) in
-    ap (λ (x : List ℕ). o0 ++ x) (sym (blocks_more code i starts i h ∙ ap (λ (k : ℕ). if has_block k then block_bytes i (body_at code k) ++ rest else rest) (sym e) ∙ ap (λ (b : Bool). if b then block_bytes i (body_at code s) ++ rest else rest) (none_here s n)))
+pub no_block_written : (f : ℕ → Body → List ℕ) (code : Flat) (o0 : List ℕ) (starts : List ℕ) (i s : ℕ) → i < length starts → s ≡ get_or starts i 0 → s ≡ 4294967295 → o0 ++ each_block f code (i + 1) (drop (i + 1) starts) ≡ o0 ++ each_block f code i (drop i starts)
+no_block_written f code o0 starts i s h e n =
+    let rest = each_block f code (i + 1) (drop (i + 1) starts) in
+    ap (λ (x : List ℕ). o0 ++ x) (sym (blocks_more f code i starts i h ∙ ap (λ (k : ℕ). if has_block k then f i (body_at code k) ++ rest else rest) (sym e) ∙ ap (λ (b : Bool). if b then f i (body_at code s) ++ rest else rest) (none_here s n)))
 
 start_item : (xs : List ℕ) (i : ℕ) → i < length xs → slice_get xs i ≡ Some (get_or xs i 0)
 start_item [] i h = absurd (omega arith)

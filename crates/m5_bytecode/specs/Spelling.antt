@@ -62,12 +62,15 @@ has_block start = not (start == 4294967295)
 abbrev pub label_count : List ℕ → ℕ
 label_count starts = count_by has_block starts
 
--- the blocks of the labels from one on, in rising order
+-- what is written of the block of each label from one on, in rising order
+abbrev pub each_block : (ℕ → Body → List ℕ) → Flat → ℕ → List ℕ → List ℕ
+each_block write code label [] = []
+each_block write code label (s ∷ ss) =
+    if has_block s then write label (body_at code s) ++ each_block write code (label + 1) ss
+    else each_block write code (label + 1) ss
+
 abbrev pub blocks_bytes : Flat → ℕ → List ℕ → List ℕ
-blocks_bytes code label [] = []
-blocks_bytes code label (s ∷ ss) =
-    if has_block s then block_bytes label (body_at code s) ++ blocks_bytes code (label + 1) ss
-    else blocks_bytes code (label + 1) ss
+blocks_bytes code label starts = each_block block_bytes code label starts
 
 -- how many labels have a block, and the blocks
 abbrev pub code_bytes : Flat → List ℕ

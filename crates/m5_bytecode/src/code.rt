@@ -66,7 +66,7 @@ pub(crate) fn count_labels(starts: &[u32]) -> usize
 }
 
 /// How many bytes the instruction's spelling has.
-fn instruction_length(instruction: &Instruction) -> usize
+pub(crate) fn instruction_length(instruction: &Instruction) -> usize
     ensures { result ≡ length (instruction_bytes instruction.now) }
 {
     match instruction {

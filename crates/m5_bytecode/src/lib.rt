@@ -3,8 +3,11 @@
 
 pub mod code;
 mod encoding;
+mod lines;
 mod putting;
 #[cfg(test)]
 mod tests;
+mod words;
 
 pub use encoding::encode;
+pub use lines::listing;

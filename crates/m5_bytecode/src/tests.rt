@@ -1,7 +1,7 @@
 //! A code made and spelled.
 
 use crate::code::Code;
-use crate::encode;
+use crate::{encode, listing};
 use m5_machine::blocks::NO_BLOCK;
 use m5_machine::link::link;
 use m5_machine::listed::TextBytes;
@@ -19,6 +19,10 @@ fn a_block_that_ends_at_once(rt: HostRuntime) -> Result<(), Fail> {
     let code = Code::of(blocks).ok_or("no code")?;
     let bytes = encode(rt.alloc(), &code)?;
     assert_eq!(rt; bytes.bytes(), b"\0\x01\0\x01\0\0\0\x01\x24".as_slice());
+    assert_eq!(rt;
+        listing(rt.alloc(), &code)?.bytes(),
+        b"1: done\n".as_slice()
+    );
     Ok(())
 }
 
@@ -40,6 +44,10 @@ fn an_if_tells_how_long_its_first_body_is(rt: HostRuntime) -> Result<(), Fail> {
     assert_eq!(rt;
         bytes.bytes(),
         b"\0\x01\0\0\0\0\0\x22\x03\0\0\0\x01a\x02\xff\xff\xff\xff\xff\xff\xff\xff\x20\0\x01\0\0\0\x06\x22\x05\0\x01\0\x02\x23\x02\0\0\0\x01".as_slice()
+    );
+    assert_eq!(rt;
+        listing(rt.alloc(), &code)?.bytes(),
+        b"0: text 1 97; int -1; if 1 6; ask 5 1 2; send 2 0 1\n".as_slice()
     );
     Ok(())
 }

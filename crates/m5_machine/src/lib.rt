@@ -7,7 +7,7 @@ mod block;
 pub mod blocks;
 mod cells;
 pub mod closure;
-mod decimal;
+pub mod decimal;
 pub mod link;
 pub mod listed;
 pub mod made;
