@@ -24,7 +24,8 @@ rest_length : (bs : List Body) → 1 < length bs → 0 < length (all_but_first b
 rest_length [] h = absurd (omega arith)
 rest_length (b ∷ bs) h = omega arith
 
-past : (ss : List Step) (at : ℕ) → 0 < length (bodies (drop at ss)) → at < length ss
+-- a body begins at steps alone
+pub past : (ss : List Step) (at : ℕ) → 0 < length (bodies (drop at ss)) → at < length ss
 past [] zero h = absurd (omega arith)
 past [] (suc at) h = absurd (omega arith)
 past (s ∷ ss) zero h = omega arith

@@ -50,11 +50,15 @@ asking code os primitive argument next =
     if takes code os primitive argument && is_closure code os next then Asks primitive argument next else NoCase
 
 unfoldable pub run_body : Flat → Body → Bench → Next × Bench
-run_body code (Then i b) bench = and_then (filling code i bench).0 (filling code i bench).1 (run_body code b)
-run_body code (If s a b) bench = choice (bool_in (slice_get bench.slots s)) bench (run_body code a bench) (run_body code b bench)
+run_body code (Then i b) bench =
+    and_then (filling code i bench).0 (filling code i bench).1 (run_body code b)
+run_body code (If s a b) bench =
+    choice (bool_in (slice_get bench.slots s)) bench (run_body code a bench) (run_body code b bench)
 run_body code (Go closure value) bench = (of_slots bench.slots closure value Enters, bench)
-run_body code (Ask primitive argument next) bench = (of_slots bench.slots argument next (asking code bench.region.objects primitive), bench)
-run_body code (Send world closure value) bench = (of_slots bench.slots closure value (Sends world), bench)
+run_body code (Ask primitive argument next) bench =
+    (of_slots bench.slots argument next (asking code bench.region.objects primitive), bench)
+run_body code (Send world closure value) bench =
+    (of_slots bench.slots closure value (Sends world), bench)
 run_body code Done bench = (Ended, bench)
 
 -- the values that come out of a block refer to objects of their kinds; an ask's are what it takes

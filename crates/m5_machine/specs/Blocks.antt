@@ -27,8 +27,11 @@ HasBody code at = 0 < length (bodies (drop at code.steps))
 
 -- what the step at a place says of the body there
 abbrev pub Shows : Flat → ℕ → Step → Type 0
-Shows code at (steps.Fill i) = (body_at code at ≡ Then i (body_at code (at + 1))) × HasBody code (at + 1) × (at + 1 < 2 ^ 32)
-Shows code at (steps.If slot place) = (body_at code at ≡ If slot (body_at code (at + 1)) (body_at code place)) × HasBody code (at + 1) × HasBody code place × (at + 1 < 2 ^ 32)
+Shows code at (steps.Fill i) =
+    (body_at code at ≡ Then i (body_at code (at + 1))) × HasBody code (at + 1) × (at + 1 < 2 ^ 32)
+Shows code at (steps.If slot place) =
+    (body_at code at ≡ If slot (body_at code (at + 1)) (body_at code place))
+    × HasBody code (at + 1) × HasBody code place × (at + 1 < 2 ^ 32)
 Shows code at (steps.Go closure value) = body_at code at ≡ Go closure value
 Shows code at (steps.Ask primitive argument next) = body_at code at ≡ Ask primitive argument next
 Shows code at (steps.Send world closure value) = body_at code at ≡ Send world closure value
@@ -56,7 +59,9 @@ StartOf code label (Some start) = (start_of code label ≡ Some start) × Begins
 -- Each step has the bodies that it wants behind it, and an `If` names the place of its second body.
 abbrev pub StandsBefore : Flat → ℕ → Step → Type 0
 StandsBefore code at (steps.Fill i) = 0 < length (bodies (drop (suc at) code.steps))
-StandsBefore code at (steps.If slot place) = (1 < length (bodies (drop (suc at) code.steps))) × (bodies (drop place code.steps) ≡ all_but_first (bodies (drop (suc at) code.steps)))
+StandsBefore code at (steps.If slot place) =
+    (1 < length (bodies (drop (suc at) code.steps)))
+    × (bodies (drop place code.steps) ≡ all_but_first (bodies (drop (suc at) code.steps)))
 StandsBefore code at (steps.Go closure value) = Unit {0}
 StandsBefore code at (steps.Ask primitive argument next) = Unit {0}
 StandsBefore code at (steps.Send world closure value) = Unit {0}

@@ -30,8 +30,8 @@ depth (Ask primitive argument next) = 1
 depth (Send world closure value) = 1
 depth Done = 1
 
--- Steps spell bodies one after the other, read from the right: an instruction goes onto the body behind
--- it, an `If` onto the two bodies behind it.
+-- Steps spell bodies one after the other, read from the right: an instruction goes onto the body
+-- behind it, an `If` onto the two bodies behind it.
 abbrev pub one : (Body → Body) → List Body → List Body
 one make [] = []
 one make (b ∷ bs) = make b ∷ bs

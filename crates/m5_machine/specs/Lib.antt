@@ -6,4 +6,5 @@ pub mod Primitive
 pub mod Table
 pub mod Block
 pub mod Run
+pub mod Linked
 pub mod code

@@ -1,4 +1,5 @@
--- Slots read as what an instruction wants there: None where a slot is not filled or holds another kind.
+-- Slots read as what an instruction wants there: None where a slot is not filled or holds another
+-- kind.
 use Rattle.std.specs.Prelude.{ℕ, ℤ, List, Option, Some, None, Bool, slice_get}
 use Rattle.m5_region.specs.declared.value.Ref.{Ref}
 use Rattle.m5_region.specs.declared.value.Value.{Value}

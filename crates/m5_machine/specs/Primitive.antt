@@ -1,5 +1,5 @@
--- What the primitives take, by their codes: 0 say, 1 set_text, 2 get_text, 3 on, 4 read, 5 write, 6 watch,
--- 7 show.
+-- What the primitives take, by their codes: 0 say, 1 set_text, 2 get_text, 3 on, 4 read, 5 write, 6
+-- watch, 7 show.
 use Rattle.std.specs.Prelude.{ℕ, List, [], ◌∷◌, Option, Some, None, Bool, false, is_some, ◌==◌, ◌&&◌, if◌then◌else◌}
 use Rattle.m5_region.specs.declared.value.Value.{Value}
 use Rattle.m5_region.specs.Region.{Object, fields_of}

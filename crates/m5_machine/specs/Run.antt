@@ -18,7 +18,8 @@ abbrev pub run_block : Flat → Value → Value → ℕ → Bench → Next × Be
 run_block code closure value start bench =
     run_body code (body_at code start) (record bench { slots = closure ∷ value ∷ [] })
 
--- how a block of a label ends the run of its thread; one that enters another does so where it is no closure
+-- how a block of a label ends the run of its thread; one that enters another does so where it is no
+-- closure
 abbrev pub ending : ℕ → Next → Out
 ending label (Enters closure value) = out.Wrong label
 ending label (Asks primitive argument next) = out.Asks primitive argument next
@@ -43,12 +44,14 @@ abbrev pub next_block : Flat → List Object → Option (Value × Value) → Opt
 next_block code os None = None
 next_block code os (Some to) = entry code os to.0
 
-abbrev pub going : Option Target → Option (Value × Value) → ℕ → Next → Bench → (Value → Value → Target → Bench → Out × Bench) → Out × Bench
+abbrev pub going : Option Target → Option (Value × Value) → ℕ → Next → Bench → (Value → Value →
+    Target → Bench → Out × Bench) → Out × Bench
 going None to label next bench go = (ending label next, bench)
 going (Some target) None label next bench go = (ending label next, bench)
 going (Some target) (Some to) label next bench go = go to.0 to.1 target bench
 
-abbrev pub after_block : Flat → ℕ → Next → Bench → (Value → Value → Target → Bench → Out × Bench) → Out × Bench
+abbrev pub after_block : Flat → ℕ → Next → Bench → (Value → Value → Target → Bench →
+    Out × Bench) → Out × Bench
 after_block code label next bench go =
     going (next_block code bench.region.objects (entering next)) (entering next) label next bench go
 
@@ -59,8 +62,8 @@ run_from code (suc fuel) closure value to bench =
     let r = run_block code closure value to.start (record bench { fuel = fuel }) in
     after_block code to.label r.0 r.1 (run_from code fuel)
 
--- The front thread's run. A machine is run where there is a thread and its code is a closure; the other
--- cases are there to make it a function.
+-- The front thread's run. A machine is run where there is a thread and its code is a closure; the
+-- other cases are there to make it a function.
 abbrev pub run_entered : Flat → Ready → Option Target → Bench → Out × Bench
 run_entered code t None bench = (out.Ended, bench)
 run_entered code t (Some to) bench = run_from code bench.fuel t.code t.argument to bench

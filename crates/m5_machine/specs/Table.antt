@@ -66,7 +66,8 @@ abbrev pub equal_values : List Object → List Value → ℕ → ℕ → Option 
 equal_values os slots a b = first_there (equal_ints slots a b) (equal_texts os slots a b)
 
 abbrev pub joined_text : List Object → List Value → ℕ → ℕ → Option Object
-joined_text os slots a b = with_two (text_at os slots a) (text_at os slots b) (λ x y. TextOf (x ++ y))
+joined_text os slots a b =
+    with_two (text_at os slots a) (text_at os slots b) (λ x y. TextOf (x ++ y))
 
 abbrev pub decimal_text : List Value → ℕ → Option Object
 decimal_text slots a = with_one (int_in (slice_get slots a)) (λ n. Some (TextOf (signed_decimal n)))
@@ -149,23 +150,33 @@ abbrev pub made : Flat → Instruction → Bench → Made × Bench
 made code instructions.Unit bench = (Gives values.Null, bench)
 made code (instructions.Bool b) bench = (Gives (values.Bool b), bench)
 made code (instructions.Int n) bench = (Gives (values.Int n), bench)
-made code (instructions.Text bytes) bench = in_region bench (with_object bench.region (TextOf bytes) values.Text)
-made code (instructions.Array slots) bench = in_region bench (added bench.region (array_of bench.slots slots) values.Array)
-made code (instructions.Field s place) bench = given bench (part bench.region.objects bench.slots s place)
+made code (instructions.Text bytes) bench =
+    in_region bench (with_object bench.region (TextOf bytes) values.Text)
+made code (instructions.Array slots) bench =
+    in_region bench (added bench.region (array_of bench.slots slots) values.Array)
+made code (instructions.Field s place) bench =
+    given bench (part bench.region.objects bench.slots s place)
 made code (instructions.Add a b) bench = given bench (sum_of bench.slots a b)
 made code (instructions.Sub a b) bench = given bench (difference_of bench.slots a b)
 made code (instructions.Mul a b) bench = given bench (product_of bench.slots a b)
 made code (instructions.Quo a b) bench = given bench (quotient_of bench.slots a b)
-made code (instructions.Cat a b) bench = in_region bench (added bench.region (joined_text bench.region.objects bench.slots a b) values.Text)
-made code (instructions.Str a) bench = in_region bench (added bench.region (decimal_text bench.slots a) values.Text)
+made code (instructions.Cat a b) bench =
+    in_region bench (added bench.region (joined_text bench.region.objects bench.slots a b) values.Text)
+made code (instructions.Str a) bench =
+    in_region bench (added bench.region (decimal_text bench.slots a) values.Text)
 made code (instructions.Less a b) bench = given bench (less_than bench.slots a b)
 made code (instructions.EqualInts a b) bench = given bench (equal_ints bench.slots a b)
-made code (instructions.EqualTexts a b) bench = given bench (equal_texts bench.region.objects bench.slots a b)
-made code (instructions.Same a b) bench = given bench (equal_values bench.region.objects bench.slots a b)
-made code (instructions.Cell s) bench = in_cells bench (new_cell bench.cells (slice_get bench.slots s))
+made code (instructions.EqualTexts a b) bench =
+    given bench (equal_texts bench.region.objects bench.slots a b)
+made code (instructions.Same a b) bench =
+    given bench (equal_values bench.region.objects bench.slots a b)
+made code (instructions.Cell s) bench =
+    in_cells bench (new_cell bench.cells (slice_get bench.slots s))
 made code (instructions.Load s) bench = given bench (loaded bench.cells bench.slots s)
-made code (instructions.Store s v) bench = in_cells bench (set_cell bench.cells (place_in bench.cells bench.slots s) (slice_get bench.slots v))
-made code (instructions.Spawn s) bench = in_threads bench (new_thread code bench.region.objects bench.threads (slice_get bench.slots s))
+made code (instructions.Store s v) bench =
+    in_cells bench (set_cell bench.cells (place_in bench.cells bench.slots s) (slice_get bench.slots v))
+made code (instructions.Spawn s) bench =
+    in_threads bench (new_thread code bench.region.objects bench.threads (slice_get bench.slots s))
 
 -- a reference in the value is to an object of its kind
 abbrev pub GivesFit : List Object → Made → Type 0

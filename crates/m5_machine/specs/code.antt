@@ -1,2 +1,3 @@
--- What the machine keeps while it runs.
+-- What the code keeps while it runs or makes blocks.
 pub mod Running
+pub mod Shapes

@@ -9,8 +9,8 @@ use std::marker::Model;
 /// No block has the label, where this stands for the place at which one begins.
 pub const NO_BLOCK: u32 = 0xffff_ffff;
 
-/// Blocks by label, each a tree of instructions and endings. A block's steps stand in the order in which
-/// they are written, an `If` before its two bodies.
+/// Blocks by label, each a tree of instructions and endings. A block's steps stand in the order in
+/// which they are written, an `If` before its two bodies.
 #[derive(Drop)]
 pub struct Blocks {
     starts: Vec<u32>,
@@ -34,6 +34,27 @@ impl Blocks {
         ensures { result ≡ record { starts = starts.items; steps = steps.items } }
     {
         Blocks { starts, steps }
+    }
+
+    /// A body begins at each step. The call does nothing.
+    pub fn is_flat(&self)
+        ensures { IsFlat self.now }
+    {
+        let _ = &self.steps;
+    }
+
+    /// Where the block of each label begins; `NO_BLOCK` where it has none.
+    pub fn starts(&self) -> &[u32]
+        ensures { result.now ≡ self.now.starts }
+    {
+        self.starts.as_slice()
+    }
+
+    /// The steps of all blocks.
+    pub fn steps(&self) -> &[Step]
+        ensures { result.now ≡ self.now.steps }
+    {
+        self.steps.as_slice()
     }
 
     /// The step at a place where a body begins.

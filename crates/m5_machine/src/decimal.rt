@@ -4,7 +4,7 @@ ghost use Rattle.std.specs.Prelude.{◌≡◌, ◌+◌, ◌<◌, ◌≤◌, ◌^
 ghost use Rattle.std.specs.Fmt.{decimal, signed_decimal};
 
 /// The most bytes of a number of 64 bits in decimal.
-pub(crate) const MOST_DIGITS: usize = 20;
+pub const MOST_DIGITS: usize = 20;
 
 /// Writes the digits at the end of the buffer, and answers where they begin.
 fn put_digits(buffer: &mut [u8; 20], number: u64) -> usize
@@ -24,7 +24,7 @@ fn put_digits(buffer: &mut [u8; 20], number: u64) -> usize
 }
 
 /// Writes a number at the end of the buffer, and answers where it begins.
-pub(crate) fn put_decimal(buffer: &mut [u8; 20], number: i64) -> usize
+pub fn put_decimal(buffer: &mut [u8; 20], number: i64) -> usize
     ensures within { result ≤ 20 }
     ensures written { drop result buffer.new ≡ signed_decimal number }
 {

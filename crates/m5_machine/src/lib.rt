@@ -1,4 +1,5 @@
-//! What the two target machines share: instructions, blocks in one flat list, and the run of a thread.
+//! What the two target machines share: instructions, blocks in one flat list, and the run of a
+//! thread.
 #![tactic(auto)]
 
 mod arrays;
@@ -6,7 +7,8 @@ mod block;
 pub mod blocks;
 mod cells;
 pub mod closure;
-mod decimal;
+pub mod decimal;
+pub mod link;
 pub mod listed;
 pub mod made;
 mod make;
@@ -16,4 +18,6 @@ mod operand;
 mod primitive;
 pub mod run;
 pub mod step;
+#[cfg(test)]
+mod tests;
 mod texts;

@@ -86,8 +86,8 @@ fn run_from(code: &Blocks, bench: &mut Bench, closure: Value, value: Value, to: 
     }
 }
 
-/// Takes the front thread off and runs it: block after block, each for one of the fuel, up to an ask, a
-/// send, the thread's end, or a stop. It takes no memory.
+/// Takes the front thread off and runs it: block after block, each for one of the fuel, up to an
+/// ask, a send, the thread's end, or a stop. It takes no memory.
 pub fn run_front(code: &Blocks, bench: &mut Bench) -> Out
     requires sound { IsSound code.now bench.old }
     requires thread { 0 < length bench.old.threads }

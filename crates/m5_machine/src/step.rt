@@ -47,7 +47,8 @@ pub enum Step {
     If(u16, u32),
     /// Enters the closure of the first slot with the value of the second.
     Go(u16, u16),
-    /// Calls the primitive of a code with an argument; the answer enters the closure of the last slot.
+    /// Calls the primitive of a code with an argument; the answer enters the closure of the last
+    /// slot.
     Ask(u8, u16, u16),
     /// Leaves to a world (0 home, 1 server, 2 panel) with a closure and a value.
     Send(u8, u16, u16),

@@ -19,7 +19,8 @@ kinds_of (TextOf bytes) = 6 ∷ replicate (text_units bytes) 7
 abbrev pub word_of : Value → List ℕ
 word_of v = to_be_bytes w64 (number_of v)
 
--- the content bytes of an object's units: how many fields or bytes, and these, with zeros after the last byte
+-- the content bytes of an object's units: how many fields or bytes, and these, with zeros after the
+-- last byte
 abbrev pub content_of : Object → List ℕ
 content_of (ArrayOf vs) = to_be_bytes w64 (length vs) ++ flat_map word_of vs
 content_of (TextOf bytes) =

@@ -40,7 +40,8 @@ Refers os (Int n) = Unit {0}
 Refers os (Text r) = IsSomeAnd (slice_get os r.0) IsText
 Refers os (Array r) = IsSomeAnd (slice_get os r.0) IsArray
 
--- what an object after these may be: 1 to 65,535 values that refer to some of these, or fewer than 2 ^ 32 bytes
+-- what an object after these may be: 1 to 65,535 values that refer to some of these, or fewer than
+-- 2 ^ 32 bytes
 abbrev pub MayFollow : List Object → Object → Type 0
 MayFollow older (ArrayOf vs) =
     (0 < length vs) × (length vs < 2 ^ 16) × All HasNumber vs × All (Refers older) vs
@@ -84,7 +85,8 @@ Adds old o (Some at) new =
     × (new.left + units_of o ≡ old.left)
 
 -- the bytes of two texts, one after the other, are added as a text
-abbrev pub JoinsBytes : Contents → Option (List ℕ) → Option (List ℕ) → Option Ref → Contents → Type 0
+abbrev pub JoinsBytes : Contents → Option (List ℕ) → Option (List ℕ) → Option Ref → Contents →
+    Type 0
 JoinsBytes old None second result new = ⊥
 JoinsBytes old (Some a) None result new = ⊥
 JoinsBytes old (Some a) (Some b) result new = Adds old (TextOf (a ++ b)) result new

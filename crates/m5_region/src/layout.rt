@@ -104,7 +104,8 @@ pub(crate) fn put_joined(
     requires second { second.0 + second.1 ≤ vec_len content.old }
     requires kinds { vec_len kinds.old + (1 + (first.1 + second.1 + 7) / 8) ≤ vec_capacity kinds.old }
     requires content { vec_len content.old + 8 * (1 + (first.1 + second.1 + 7) / 8) ≤ vec_capacity content.old }
-    ensures kinds { kinds.new.items ≡ kinds.old.items ++ kinds_of (TextOf (two_ranges content.old.items first second)) }
+    ensures kinds { kinds.new.items
+        ≡ kinds.old.items ++ kinds_of (TextOf (two_ranges content.old.items first second)) }
     ensures content { content.new.items
         ≡ content.old.items ++ content_of (TextOf (two_ranges content.old.items first second)) }
     ensures kinds_room { vec_capacity kinds.old ≤ vec_capacity kinds.new }

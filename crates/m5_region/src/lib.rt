@@ -1,5 +1,5 @@
-//! What a site's machine works on: a region of objects in units, cells, threads, slots and fuel, all
-//! in room that is reserved once.
+//! What a site's machine works on: a region of objects in units, cells, threads, slots and fuel,
+//! all in room that is reserved once.
 #![tactic(auto)]
 
 pub mod bench;

@@ -5,7 +5,8 @@ use crate::value::Value;
 /// What came of running a site's front thread.
 #[derive(Clone, Copy, PartialEq, Eq, Debug)]
 pub enum Out {
-    /// It calls the primitive of this code with this argument; the answer enters the closure `next`.
+    /// It calls the primitive of this code with this argument; the answer enters the closure
+    /// `next`.
     Asks {
         prim: u8,
         argument: Value,

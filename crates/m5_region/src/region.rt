@@ -13,8 +13,8 @@ use crate::value::{Ref, Value};
 use std::alloc::{AllocError, Global};
 use std::marker::Model;
 
-/// Objects, each an array of values or a text, in room for a number of units. An object is named by its
-/// number from 0, and refers to older ones alone.
+/// Objects, each an array of values or a text, in room for a number of units. An object is named by
+/// its number from 0, and refers to older ones alone.
 #[derive(Drop)]
 pub struct Region {
     kinds: Vec<u8>,
@@ -79,8 +79,8 @@ impl Region {
         let _ = &self.kinds;
     }
 
-    /// Adds an array of these values; None where fewer units are left than one more than there are values,
-    /// and then nothing changes.
+    /// Adds an array of these values; None where fewer units are left than one more than there are
+    /// values, and then nothing changes.
     pub fn add(&mut self, fields: &[Value]) -> Option<Ref>
         requires count { (0 < length fields.now) × (length fields.now < 2 ^ 16) }
         requires refer { All (Refers self.old.objects) fields.now }
@@ -95,8 +95,8 @@ impl Region {
         Some(at)
     }
 
-    /// Adds an array of this many nulls, for `fill` to set; None where too few units are left, and then
-    /// nothing changes.
+    /// Adds an array of this many nulls, for `fill` to set; None where too few units are left, and
+    /// then nothing changes.
     pub fn add_nulls(&mut self, count: u32) -> Option<Ref>
         requires { (0 < count) × (count < 2 ^ 16) }
         ensures { Adds self.old (ArrayOf (replicate count Null)) result self.new }
@@ -111,8 +111,8 @@ impl Region {
         Some(at)
     }
 
-    /// Adds a text, which takes a unit and one more for every eight bytes begun; None where too few units
-    /// are left, and then nothing changes.
+    /// Adds a text, which takes a unit and one more for every eight bytes begun; None where too few
+    /// units are left, and then nothing changes.
     pub fn add_text(&mut self, bytes: &[u8]) -> Option<Ref>
         ensures { Adds self.old (TextOf bytes.now) result self.new }
     {
@@ -125,16 +125,18 @@ impl Region {
         Some(at)
     }
 
-    /// The kind bytes of the units in use, in order: 0 null, 1 truth value, 2 number, 3 and 4 reference to a
-    /// text and to an array, 5 and 6 header of an array and of a text, 7 bytes of a text.
+    /// The kind bytes of the units in use, in order: 0 null, 1 truth value, 2 number, 3 and 4
+    /// reference to a text and to an array, 5 and 6 header of an array and of a text, 7 bytes of a
+    /// text.
     pub fn kinds(&self) -> &[u8]
         ensures { result.now ≡ all_kinds self.now.objects }
     {
         self.kinds.as_slice()
     }
 
-    /// The content bytes of the units in use, in order, eight for each: a number, the most significant byte
-    /// first, which of a header is how many fields or bytes follow; or bytes of a text, and then zeros.
+    /// The content bytes of the units in use, in order, eight for each: a number, the most
+    /// significant byte first, which of a header is how many fields or bytes follow; or bytes of a
+    /// text, and then zeros.
     pub fn content(&self) -> &[u8]
         ensures { result.now ≡ all_content self.now.objects }
     {
@@ -168,8 +170,8 @@ impl Region {
         &self.content[from..from + len]
     }
 
-    /// Adds a text of the bytes of two texts, the first's before the second's; None where too few units are
-    /// left, and then nothing changes.
+    /// Adds a text of the bytes of two texts, the first's before the second's; None where too few
+    /// units are left, and then nothing changes.
     pub fn add_joined(&mut self, first: Ref, second: Ref) -> Option<Ref>
         requires first { IsSome (text_of self.old.objects first.0) }
         requires second { IsSome (text_of self.old.objects second.0) }

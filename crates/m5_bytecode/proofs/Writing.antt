@@ -1,0 +1,126 @@
+-- A body written step by step.
+use Rattle.std.proofs.Common.{◌≡◌, ℕ, zero, suc, ◌+◌, ◌-◌, ◌<◌, ◌≤◌, ◌^◌, ◌∙◌, List, [], ◌∷◌, ◌++◌, length, take, drop, refl, ap, sym, subst, arith, append_assoc, append-nil, length-append, get_or, Bool, true, false, if◌then◌else◌, Some, slice_get}
+use Rattle.m5_machine.proofs.Places.{some_start}
+use Rattle.std.proofs.lemmas.Bool.{ne_eqb}
+use Rattle.std.proofs.lemmas.List.{take_at, drop_at, drop-drop}
+use Rattle.m5_machine.specs.declared.step.Instruction.{Instruction}
+use Rattle.m5_machine.specs.Body.{Body, Then, If, Go, Ask, Send, Done}
+use Rattle.m5_machine.specs.Blocks.{Flat, IsFlat, body_at, HasBody, start_in}
+use Rattle.m5_machine.specs.code.Running.{size}
+use Rattle.m5_bytecode.specs.Spelling.{two, four, instruction_bytes, body_bytes, block_bytes, has_block, each_block}
+
+pub fill_bytes : (out new : List ℕ) (i : Instruction) (here next : Body) → here ≡ Then i next → new ≡ out ++ instruction_bytes i → new ++ body_bytes next ≡ out ++ body_bytes here
+unfolding body_bytes
+fill_bytes out new i here next e n = ap (λ (x : List ℕ). x ++ body_bytes next) n ∙ append_assoc out (instruction_bytes i) (body_bytes next) ∙ ap (λ (b : Body). out ++ body_bytes b) (sym e)
+
+pub instruction_within : (i : Instruction) (here next : Body) → here ≡ Then i next → length (instruction_bytes i) ≤ length (body_bytes here)
+unfolding body_bytes
+instruction_within i here next e = subst (λ (b : Body). length (instruction_bytes i) ≤ length (body_bytes b)) (sym e) (omega (arith, length-append (instruction_bytes i) (body_bytes next)))
+
+-- the length of a first body, written over four bytes before it
+pub length_set : (o1 o2 o3 o4 a : List ℕ) (from n : ℕ) → from ≡ length o1 → n ≡ length o3 → o2 ≡ o1 ++ four 0 → o3 ≡ o2 ++ a → o4 ≡ take from o3 ++ (four (n - from - 4) ++ drop (from + 4) o3) → o4 ≡ o1 ++ (four (length a) ++ a)
+length_set o1 o2 o3 o4 a from n f m e2 e3 e4 =
+    let o3_is : o3 ≡ o1 ++ (four 0 ++ a) = e3 ∙ ap (λ (x : List ℕ). x ++ a) e2 ∙ append_assoc o1 (four 0) a in
+    let front : take from o3 ≡ o1 = ap (take from) o3_is ∙ take_at o1 (four 0 ++ a) from (sym f) in
+    let back : drop (from + 4) o3 ≡ a = sym (drop-drop 4 from o3) ∙ ap (drop 4) (ap (drop from) o3_is ∙ drop_at o1 (four 0 ++ a) from (sym f)) in
+    let long : n - from - 4 ≡ length a = omega (arith, ap length o3_is, length-append o1 (four 0 ++ a)) in
+    e4 ∙ ap (λ (x : List ℕ). x ++ (four (n - from - 4) ++ drop (from + 4) o3)) front ∙ ap (λ (k : ℕ). o1 ++ (four k ++ drop (from + 4) o3)) long ∙ ap (λ (x : List ℕ). o1 ++ (four (length a) ++ x)) back
+
+pub length_small : (o1 o2 o3 a : List ℕ) (from n : ℕ) → from ≡ length o1 → n ≡ length o3 → o2 ≡ o1 ++ four 0 → o3 ≡ o2 ++ a → length a < 2 ^ 32 → n < from + 4 + 2 ^ 32
+length_small o1 o2 o3 a from n f m e2 e3 h = omega (arith, ap length e2, ap length e3, length-append o1 (four 0), length-append o2 a)
+
+pub if_bytes : (o0 o1 o4 : List ℕ) (s : ℕ) (here a b : Body) → here ≡ If s a b → o1 ≡ o0 ++ (0x20 ∷ two s) → o4 ≡ o1 ++ (four (length (body_bytes a)) ++ body_bytes a) → o4 ++ body_bytes b ≡ o0 ++ body_bytes here
+unfolding body_bytes
+if_bytes o0 o1 o4 s here a b e e1 e4 =
+    let first = four (length (body_bytes a)) ++ body_bytes a in
+    let tail = body_bytes b in
+    ap (λ (x : List ℕ). x ++ tail) (e4 ∙ ap (λ (x : List ℕ). x ++ first) e1)
+    ∙ append_assoc (o0 ++ (0x20 ∷ two s)) first tail ∙ append_assoc o0 (0x20 ∷ two s) (first ++ tail)
+    ∙ ap (λ (x : List ℕ). o0 ++ (0x20 ∷ (two s ++ x))) (append_assoc (four (length (body_bytes a))) (body_bytes a) tail)
+    ∙ ap (λ (x : Body). o0 ++ body_bytes x) (sym e)
+
+pub ends_bytes : (o0 o1 : List ℕ) (here b : Body) → here ≡ b → o1 ≡ o0 ++ body_bytes b → o1 ≡ o0 ++ body_bytes here
+ends_bytes o0 o1 here b e n = n ∙ ap (λ (x : Body). o0 ++ body_bytes x) (sym e)
+
+size_positive : (b : Body) → 0 < size b
+unfolding size
+size_positive (Then i b) = omega arith
+size_positive (If s a b) = omega arith
+size_positive (Go c v) = omega arith
+size_positive (Ask p a n) = omega arith
+size_positive (Send w c v) = omega arith
+size_positive Done = omega arith
+
+pub fill_smaller : (i : Instruction) (here next : Body) → here ≡ Then i next → size next < size here
+unfolding size
+fill_smaller i here next e = subst (λ (b : Body). size next < size b) (sym e) (omega arith)
+
+pub if_smaller : (s : ℕ) (here a b : Body) → here ≡ If s a b → (size a < size here) × (size b < size here)
+unfolding size
+if_smaller s here a b e = subst (λ (x : Body). (size a < size x) × (size b < size x)) (sym e) (omega (arith, size_positive b), omega (arith, size_positive a))
+
+pub go_bytes : (o0 o1 : List ℕ) (c v : ℕ) (here : Body) → here ≡ Go c v → o1 ≡ o0 ++ (0x21 ∷ (two c ++ two v)) → o1 ≡ o0 ++ body_bytes here
+unfolding body_bytes
+go_bytes o0 o1 c v here e n = ends_bytes o0 o1 here (Go c v) e n
+
+pub ask_bytes : (o0 o1 o2 : List ℕ) (p a n : ℕ) (here : Body) → here ≡ Ask p a n → o1 ≡ o0 ++ 0x22 ∷ [] → o2 ≡ o1 ++ (p ∷ (two a ++ two n)) → o2 ≡ o0 ++ body_bytes here
+unfolding body_bytes
+ask_bytes o0 o1 o2 p a n here e f g = ends_bytes o0 o2 here (Ask p a n) e (g ∙ ap (λ (x : List ℕ). x ++ (p ∷ (two a ++ two n))) f ∙ append_assoc o0 (0x22 ∷ []) (p ∷ (two a ++ two n)))
+
+pub send_bytes : (o0 o1 o2 : List ℕ) (w c v : ℕ) (here : Body) → here ≡ Send w c v → o1 ≡ o0 ++ 0x23 ∷ [] → o2 ≡ o1 ++ (w ∷ (two c ++ two v)) → o2 ≡ o0 ++ body_bytes here
+unfolding body_bytes
+send_bytes o0 o1 o2 w c v here e f g = ends_bytes o0 o2 here (Send w c v) e (g ∙ ap (λ (x : List ℕ). x ++ (w ∷ (two c ++ two v))) f ∙ append_assoc o0 (0x23 ∷ []) (w ∷ (two c ++ two v)))
+
+pub done_bytes : (o0 o1 : List ℕ) (here : Body) → here ≡ Done → o1 ≡ o0 ++ 0x24 ∷ [] → o1 ≡ o0 ++ body_bytes here
+unfolding body_bytes
+done_bytes o0 o1 here e n = ends_bytes o0 o1 here Done e n
+
+pub block_whole : (o0 o1 o4 : List ℕ) (label : ℕ) (b : Body) → o1 ≡ o0 ++ two label → o4 ≡ o1 ++ (four (length (body_bytes b)) ++ body_bytes b) → o4 ≡ o0 ++ block_bytes label b
+block_whole o0 o1 o4 label b e f = f ∙ ap (λ (x : List ℕ). x ++ (four (length (body_bytes b)) ++ body_bytes b)) e ∙ append_assoc o0 (two label) (four (length (body_bytes b)) ++ body_bytes b)
+
+-- one label more
+blocks_next : (f : ℕ → Body → List ℕ) (code : Flat) (from : ℕ) (starts : List ℕ) (i : ℕ) → i < length starts → each_block f code from (drop i starts) ≡ (if has_block (get_or starts i 0) then f from (body_at code (get_or starts i 0)) ++ each_block f code (from + 1) (drop (suc i) starts) else each_block f code (from + 1) (drop (suc i) starts))
+blocks_next f code from [] i h = absurd (omega arith)
+blocks_next f code from (s ∷ ss) zero h = refl
+blocks_next f code from (s ∷ ss) (suc i) h = blocks_next f code from ss i (omega arith)
+
+blocks_more : (f : ℕ → Body → List ℕ) (code : Flat) (from : ℕ) (starts : List ℕ) (i : ℕ) → i < length starts → each_block f code from (drop i starts) ≡ (if has_block (get_or starts i 0) then f from (body_at code (get_or starts i 0)) ++ each_block f code (from + 1) (drop (i + 1) starts) else each_block f code (from + 1) (drop (i + 1) starts))
+blocks_more f code from starts i h = subst (λ (n : ℕ). each_block f code from (drop i starts) ≡ (if has_block (get_or starts i 0) then f from (body_at code (get_or starts i 0)) ++ each_block f code (from + 1) (drop n starts) else each_block f code (from + 1) (drop n starts))) (let e : suc i ≡ i + 1 = omega arith in e) (blocks_next f code from starts i h)
+
+no_blocks : (f : ℕ → Body → List ℕ) (code : Flat) (n i : ℕ) (starts : List ℕ) → length starts ≤ i → each_block f code n (drop i starts) ≡ []
+no_blocks f code n zero [] h = refl
+no_blocks f code n (suc i) [] h = refl
+no_blocks f code n zero (s ∷ ss) h = absurd (omega arith)
+no_blocks f code n (suc i) (s ∷ ss) h = no_blocks f code n i ss (omega arith)
+
+pub all_blocks : (f : ℕ → Body → List ℕ) (code : Flat) (out : List ℕ) (n i : ℕ) (starts whole : List ℕ) → length starts ≤ i → out ++ each_block f code n (drop i starts) ≡ whole → out ≡ whole
+all_blocks f code out n i starts whole h e = sym (append-nil out) ∙ ap (λ (x : List ℕ). out ++ x) (sym (no_blocks f code n i starts h)) ∙ e
+
+none_here : (s : ℕ) → s ≡ 4294967295 → has_block s ≡ false
+none_here s e = rw e refl
+
+some_here : (s : ℕ) → (s ≡ 4294967295 → ⊥) → has_block s ≡ true
+some_here s h = rw (ne_eqb s 4294967295 h) refl
+
+pub block_written : (f : ℕ → Body → List ℕ) (code : Flat) (o0 o1 : List ℕ) (starts : List ℕ) (i s : ℕ) → i < length starts → s ≡ get_or starts i 0 → (s ≡ 4294967295 → ⊥) → o1 ≡ o0 ++ f i (body_at code s) → o1 ++ each_block f code (i + 1) (drop (i + 1) starts) ≡ o0 ++ each_block f code i (drop i starts)
+block_written f code o0 o1 starts i s h e n g =
+    let rest = each_block f code (i + 1) (drop (i + 1) starts) in
+    let here : each_block f code i (drop i starts) ≡ f i (body_at code s) ++ rest =
+    blocks_more f code i starts i h ∙ ap (λ (k : ℕ). if has_block k then f i (body_at code k) ++ rest else rest) (sym e) ∙ ap (λ (b : Bool). if b then f i (body_at code s) ++ rest else rest) (some_here s n) in
+    ap (λ (x : List ℕ). x ++ rest) g ∙ append_assoc o0 (f i (body_at code s)) rest ∙ ap (λ (x : List ℕ). o0 ++ x) (sym here)
+
+pub no_block_written : (f : ℕ → Body → List ℕ) (code : Flat) (o0 : List ℕ) (starts : List ℕ) (i s : ℕ) → i < length starts → s ≡ get_or starts i 0 → s ≡ 4294967295 → o0 ++ each_block f code (i + 1) (drop (i + 1) starts) ≡ o0 ++ each_block f code i (drop i starts)
+no_block_written f code o0 starts i s h e n =
+    let rest = each_block f code (i + 1) (drop (i + 1) starts) in
+    ap (λ (x : List ℕ). o0 ++ x) (sym (blocks_more f code i starts i h ∙ ap (λ (k : ℕ). if has_block k then f i (body_at code k) ++ rest else rest) (sym e) ∙ ap (λ (b : Bool). if b then f i (body_at code s) ++ rest else rest) (none_here s n)))
+
+start_item : (xs : List ℕ) (i : ℕ) → i < length xs → slice_get xs i ≡ Some (get_or xs i 0)
+start_item [] i h = absurd (omega arith)
+start_item (x ∷ xs) zero h = refl
+start_item (x ∷ xs) (suc i) h = start_item xs i (omega arith)
+
+-- where a label's block begins
+pub block_there : (code : Flat) (starts : List ℕ) (i s : ℕ) → IsFlat code → starts ≡ code.starts → i < length starts → s ≡ get_or starts i 0 → (s ≡ 4294967295 → ⊥) → HasBody code s
+block_there code starts i s f e h g n =
+    let at : slice_get code.starts i ≡ Some s = ap (λ (x : List ℕ). slice_get x i) (sym e) ∙ start_item starts i h ∙ ap Some (sym g) in
+    (f.starts i s (ap start_in at ∙ some_start s n)).body

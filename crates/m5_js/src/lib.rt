@@ -1,0 +1,4 @@
+//! The code of homes and panels: blocks that have a spelling as JavaScript.
+#![tactic(auto)]
+
+pub mod js;
