@@ -1,6 +1,6 @@
 //! The next moment of a site at which a run does something with it.
 
-ghost use Rattle.std.specs.Prelude.{◌≡◌, ◌≢◌, ◌≤◌, ◌<◌, ◌^◌, IfOk};
+ghost use Rattle.std.specs.Prelude.{IfOk};
 ghost use Rattle.m5_script.specs.Scenario.{Scenario};
 ghost use Rattle.m5_source_site.specs.ClosedSite.{IsClosedSite};
 ghost use Rattle.m5_reference.specs.Moments.{HasLimits, IsStepOrMomentAt, IsMoment, IsClosedStepOrMoment, IsClosedMoment, IsCountedStep};

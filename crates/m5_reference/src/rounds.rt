@@ -1,6 +1,6 @@
 //! Rounds over all sites, until one finds nothing.
 
-ghost use Rattle.std.specs.Prelude.{◌≡◌, ◌<◌, ◌^◌, ◌++◌, length, map, All, IfOk, OnOk};
+ghost use Rattle.std.specs.Prelude.{◌≡◌, ◌++◌, length, map, All, IfOk, OnOk};
 ghost use Rattle.m5_terms.specs.Worlds.{site_worlds};
 ghost use Rattle.m5_script.specs.Scenario.{Scenario};
 ghost use Rattle.m5_network.specs.Plain.{sites_of};

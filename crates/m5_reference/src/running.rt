@@ -1,6 +1,6 @@
 //! A run on its way, and one turn of each of some sites.
 
-ghost use Rattle.std.specs.Prelude.{◌<◌, ◌^◌, length, All, IfOk};
+ghost use Rattle.std.specs.Prelude.{length, All, IfOk};
 ghost use Rattle.m5_script.specs.Scenario.{Scenario};
 ghost use Rattle.m5_network.specs.Run.{Network, IsSite};
 ghost use Rattle.m5_reference.specs.Moments.{HasLimits};

@@ -1,6 +1,6 @@
 //! One turn of a site.
 
-ghost use Rattle.std.specs.Prelude.{◌≡◌, ◌<◌, ◌^◌, ◌↔◌, length, IfOk, OnOk, IsTrue, Some};
+ghost use Rattle.std.specs.Prelude.{◌≡◌, ◌↔◌, length, IfOk, OnOk, IsTrue, Some};
 ghost use Rattle.m5_terms.specs.Worlds.{IsSiteWorld};
 ghost use Rattle.m5_terms.specs.declared.ask.AnswerOf.TheVariants as answer;
 ghost use Rattle.m5_script.specs.Scenario.{Scenario};
