@@ -2,7 +2,7 @@ pub mod Budget
 pub mod Reference
 pub mod Moments
 pub mod OpeningLists
-pub mod SiteRows
+pub mod Sites
 pub mod Running
 pub mod Finishing
 pub mod Ahead

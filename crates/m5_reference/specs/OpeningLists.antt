@@ -9,7 +9,7 @@ use Rattle.m5_script.specs.declared.items.PageEvent.{PageEvent}
 use Rattle.m5_script.specs.declared.items.RawItem.{RawItem}
 use Rattle.m5_network.specs.Board.{Event, Desk}
 use Rattle.m5_network.specs.Opening.{event_of, raw_items, opening_desk, opening_site, opening_threads}
-use Rattle.m5_reference.specs.SiteRows.{SessionSites}
+use Rattle.m5_reference.specs.Sites.{SessionSites}
 
 -- the events of a session
 abbrev pub session_events : List PageEvent → ℕ → List Event

@@ -17,7 +17,7 @@ use m5_page::row::Event;
 use m5_script::items::{PageEvent, RawItem, TextPair};
 use m5_script::script::Script;
 use m5_source_site::item::LinkItem;
-use m5_source_site::rules::Rules;
+use m5_source_site::measured::MeasuredProgram;
 use m5_source_site::site::Site;
 use m5_source_site::thread::SiteThread;
 use m5_terms::item::Item;
@@ -176,15 +176,15 @@ pub fn open_board(alloc: Global, script: &Script) -> Result<Board<LinkItem>, All
 /// The threads with which the site of a world opens: at home one evaluates the program's main term.
 fn open_threads(
     alloc: Global,
-    rules: &Rules<'_>,
+    program: &MeasuredProgram<'_>,
     world: World,
 ) -> Result<Queue<SiteThread>, AllocError>
-    ensures { IfOk result (λ ts. ts ≡ opening_threads rules.now world) }
+    ensures { IfOk result (λ ts. ts ≡ opening_threads program.now world) }
 {
     let mut threads = Queue::make(alloc);
     match world {
         World::Home => {
-            let focus = Focus::Eval(World::Home, rules.main().copy(alloc)?);
+            let focus = Focus::Eval(World::Home, program.main().copy(alloc)?);
             threads.push_back(SiteThread::new(Queue::make(alloc), focus))?;
         }
         _ => {}
@@ -193,30 +193,34 @@ fn open_threads(
 }
 
 /// The site of a world as it opens.
-fn open_site(alloc: Global, rules: &Rules<'_>, world: World) -> Result<Option<Site>, AllocError>
-    ensures { IfOk result (λ o. o ≡ Some (opening_site (opening_threads rules.now world))) }
+fn open_site(
+    alloc: Global,
+    program: &MeasuredProgram<'_>,
+    world: World,
+) -> Result<Option<Site>, AllocError>
+    ensures { IfOk result (λ o. o ≡ Some (opening_site (opening_threads program.now world))) }
 {
-    Ok(Some(Site::opening(alloc, open_threads(alloc, rules, world)?)))
+    Ok(Some(Site::opening(alloc, open_threads(alloc, program, world)?)))
 }
 
-fn open_session(alloc: Global, rules: &Rules<'_>) -> Result<SessionSites, AllocError>
-    ensures { IfOk result (λ r. r ≡ sites_opened rules.now) }
+fn open_session(alloc: Global, program: &MeasuredProgram<'_>) -> Result<SessionSites, AllocError>
+    ensures { IfOk result (λ r. r ≡ sites_opened program.now) }
 {
-    PerWorld::of_each(|world: World| open_site(alloc, rules, world))
+    PerWorld::of_each(|world: World| open_site(alloc, program, world))
 }
 
 /// The sites of so many sessions: each home begins with a thread that evaluates the main term, and
 /// each other site with none.
 pub fn open_sites(
     alloc: Global,
-    rules: &Rules<'_>,
+    program: &MeasuredProgram<'_>,
     sessions: u32,
 ) -> Result<Vec<SessionSites>, AllocError>
-    ensures { IfOk result (λ v. v.items ≡ replicate sessions (sites_opened rules.now)) }
+    ensures { IfOk result (λ v. v.items ≡ replicate sessions (sites_opened program.now)) }
 {
-    let mut rows = Vec::new(alloc);
+    let mut sites = Vec::new(alloc);
     for _number in 0..sessions {
-        rows.push(open_session(alloc, rules)?)?;
+        sites.push(open_session(alloc, program)?)?;
     }
-    Ok(rows)
+    Ok(sites)
 }

@@ -9,28 +9,28 @@ use Rattle.m5_meaning.specs.Reduction.{Reduced, makes_cell, leaves, says, shows,
 use Rattle.m5_source_site.specs.ClosedSite.{IsClosedSite, IsClosedQuery, IsClosedReply}
 use Rattle.m5_source_site.specs.declared.resume.Wait.{Wait}
 use Rattle.m5_source_site.specs.declared.resume.Wait.TheVariants as wait
-use Rattle.m5_source_site.specs.declared.advance.Progress.{Progress}
-use Rattle.m5_source_site.specs.declared.advance.Progress.TheVariants as progress
+use Rattle.m5_source_site.specs.declared.next.Next.{Next}
+use Rattle.m5_source_site.specs.declared.next.Next.TheVariants as next
 
 -- what a waiting site at the world u does with an answer
 abbrev pub resumed : Program → World → Site → Wait → AnswerOf Item → Option Site
-resumed P u s wait.Told = after_done P s s.threads
-resumed P u s (wait.ForText fs w) = after_get_text P s s.threads fs w
-resumed P u s (wait.ForRead fs w) = after_read P s s.threads fs w
-resumed P u s wait.ForNews = after_take u s
-resumed P u s wait.ToStop = stopped_by s
+resumed P u s wait.Done = after_done P s s.threads
+resumed P u s (wait.Text fs w) = after_get_text P s s.threads fs w
+resumed P u s (wait.Read fs w) = after_read P s s.threads fs w
+resumed P u s wait.Take = after_take u s
+resumed P u s wait.Stop = stopped_by s
 
 -- the code's answer is what the site does next
-abbrev pub Stands : Program → World → Progress → SiteNext → Type 0
-Stands P u (progress.Goes s) n = n ≡ goes s
-Stands P u (progress.Asks q x) n = n ≡ asks q (resumed P u x.site x.wait)
-Stands P u progress.Wrong n = n ≡ wrong
+abbrev pub Stands : Program → World → Next → SiteNext → Type 0
+Stands P u (next.Goes s) n = n ≡ goes s
+Stands P u (next.Asks q x) n = n ≡ asks q (resumed P u x.site x.wait)
+Stands P u next.Wrong n = n ≡ wrong
 
 -- what the code's answer holds is closed, and stays so with each closed reply
-abbrev pub IsClosedProgress : Program → World → Progress → Type 0
-IsClosedProgress P u (progress.Goes s) = IsClosedSite s
-IsClosedProgress P u (progress.Asks q x) = IsClosedQuery q × ((r : AnswerOf Item) (t : Site) → IsClosedReply r → resumed P u x.site x.wait r ≡ Some t → IsClosedSite t)
-IsClosedProgress P u progress.Wrong = Unit {0}
+abbrev pub KeepsClosed : Program → World → Next → Type 0
+KeepsClosed P u (next.Goes s) = IsClosedSite s
+KeepsClosed P u (next.Asks q x) = IsClosedQuery q × ((r : AnswerOf Item) (t : Site) → IsClosedReply r → resumed P u x.site x.wait r ≡ Some t → IsClosedSite t)
+KeepsClosed P u next.Wrong = Unit {0}
 
 -- the site with one thread more, which runs
 abbrev pub with_front : Thread → Site → Site

@@ -1,4 +1,4 @@
-//! A program with its width.
+//! A typed program with its width.
 
 ghost use Rattle.std.specs.Prelude.{◌≡◌, ◌+◌, ◌<◌, ◌^◌, slice_get, MatchOption, None, Some};
 ghost use Rattle.m5_meaning.specs.Step.{step_weight};
@@ -11,17 +11,18 @@ use m5_typing::program::Program;
 use m5_typing::width::width;
 use std::marker::Model;
 
-/// A program, whose width has been found once.
+/// A program without free variables, whose width has been found once.
 #[derive(Drop)]
-pub struct Rules<'a> {
+pub struct MeasuredProgram<'a> {
     program: &'a Program,
     held_width: u32,
 }
 
-impl<'a> Model for Rules<'a> {
+impl<'a> Model for MeasuredProgram<'a> {
     ghost use Rattle.std.specs.Prelude.{◌≡◌};
     ghost use Rattle.m5_typing.specs.Program.{ProgramTerm, program_code};
     ghost use Rattle.m5_typing.specs.Width.{program_width};
+    ghost use Rattle.m5_source_site.specs.ClosedSite.{IsClosedProgram};
 
     ghost Value = { ProgramTerm };
 
@@ -29,24 +30,30 @@ impl<'a> Model for Rules<'a> {
 
     ghost view = { λ r. r.program.now };
 
-    ghost invariant = { λ r. r.held_width ≡ program_width r.program.now };
+    ghost invariant = { λ r. (r.held_width ≡ program_width r.program.now) × IsClosedProgram r.program.now };
 }
 
-impl<'a> Rules<'a> {
-    pub fn of(program: &'a Program) -> Rules<'a>
-        ensures value { result ≡ program.now }
-        ensures closed { IsClosedProgram program.now }
+impl<'a> MeasuredProgram<'a> {
+    pub fn of(program: &'a Program) -> MeasuredProgram<'a>
+        ensures { result ≡ program.now }
     {
         typed_program_is_closed_holds();
         let _functions = program.functions();
-        Rules {
+        MeasuredProgram {
             program,
             held_width: width(program),
         }
     }
 }
 
-impl Rules<'_> {
+impl MeasuredProgram<'_> {
+    /// No function's body has a free variable but its parameter, and the main term has none.
+    pub fn closed_holds(&self)
+        ensures { IsClosedProgram self.now }
+    {
+        let _ = &self.held_width;
+    }
+
     /// What a step weighs that makes so many bytes of text.
     pub fn step_weight(&self, made: u64) -> u64
         requires { made < 2 ^ 63 }

@@ -16,14 +16,14 @@ abbrev pub site_in : SessionSites → World → Option Site
 site_in r Any = None
 site_in r w = at r w
 
-abbrev pub site_of_row : Option SessionSites → World → Option Site
-site_of_row None w = None
-site_of_row (Some r) w = site_in r w
+abbrev pub site_of_session : Option SessionSites → World → Option Site
+site_of_session None w = None
+site_of_session (Some r) w = site_in r w
 
 -- sessions are numbered from 1
 abbrev pub site_at : List SessionSites → ℕ → World → Option Site
-site_at rows zero w = None
-site_at rows (suc s) w = site_of_row (slice_get rows s) w
+site_at sites zero w = None
+site_at sites (suc s) w = site_of_session (slice_get sites s) w
 
 -- the same sites, but for one
 abbrev pub with_site_at : ℕ → World → Option Site → (ℕ → World → Option Site) → ℕ → World → Option Site

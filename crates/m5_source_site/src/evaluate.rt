@@ -9,13 +9,13 @@ ghost use Rattle.m5_meaning.specs.Parts.{parts};
 ghost use Rattle.m5_meaning.specs.Step.{thread_of, stepped, atom, evaluated};
 ghost use Rattle.m5_source_site.specs.ClosedSite.{HasRoom};
 ghost use Rattle.m5_source_site.specs.Atoms.{IsSpawn, atom_value, atom_made};
-ghost use Rattle.m5_source_site.specs.Waits.{with_front, Stands};
+ghost use Rattle.m5_source_site.specs.Waiting.{with_front, Stands};
 
-use crate::advance::Progress;
-use crate::give::begin_part;
+use crate::measured::MeasuredProgram;
+use crate::next::Next;
 use crate::outcome::{full, step_to};
 use crate::parts::count_of_parts;
-use crate::rules::Rules;
+use crate::returning::begin_part;
 use crate::site::Site;
 use crate::thread::{FrameQueue, SiteThread};
 use m5_terms::ask::{AskOf, Cause};
@@ -56,46 +56,46 @@ fn value_of_atom(at: World, node: Node) -> (Node, u64)
 /// The front thread goes on with unit, and what is spawned runs after the others.
 fn spawn(
     alloc: Global,
-    rules: &Rules<'_>,
+    program: &MeasuredProgram<'_>,
     mut site: Site,
     frames: FrameQueue,
     at: World,
     body: Node,
 ) -> Result<Site, AllocError>
     requires { HasRoom site }
-    ensures { IfOk result (λ t. t ≡ stepped rules.now 0 site ((thread_of frames (Returned at unit_value) ∷ site.threads) ++ thread_of [] (Eval at body) ∷ [])) }
+    ensures { IfOk result (λ t. t ≡ stepped program.now 0 site ((thread_of frames (Returned at unit_value) ∷ site.threads) ++ thread_of [] (Eval at body) ∷ [])) }
 {
     site.put_back(SiteThread::new(Queue::make(alloc), Focus::Eval(at, body)))?;
     let unit = Node::leaf(LeafForm::Unit);
-    step_to(rules, site, 0, frames, Focus::Returned(at, unit))
+    step_to(program, site, 0, frames, Focus::Returned(at, unit))
 }
 
 /// A node without evaluated parts.
 fn evaluate_atom(
     alloc: Global,
-    rules: &Rules<'_>,
+    program: &MeasuredProgram<'_>,
     here: World,
     site: Site,
     frames: FrameQueue,
     given: (World, Node),
-) -> Result<Progress, AllocError>
+) -> Result<Next, AllocError>
     requires { HasRoom site }
-    ensures { IfOk result (λ a. Stands rules.now here a (atom rules.now (with_front (thread_of frames (Eval given.0 given.1)) site) site.threads frames given.0 given.1)) }
+    ensures { IfOk result (λ a. Stands program.now here a (atom program.now (with_front (thread_of frames (Eval given.0 given.1)) site) site.threads frames given.0 given.1)) }
 {
     let (at, node) = given;
     match copy_spawned(alloc, &node)? {
         Some(body) => {
             if site.lacks_place_beside_front() {
                 let waiting = full(site, frames, Focus::Eval(at, node))?;
-                Ok(Progress::Asks(AskOf::Stop(Cause::Table), waiting))
+                Ok(Next::Asks(AskOf::Stop(Cause::Table), waiting))
             } else {
-                Ok(Progress::Goes(spawn(alloc, rules, site, frames, at, body)?))
+                Ok(Next::Goes(spawn(alloc, program, site, frames, at, body)?))
             }
         }
         None => {
             let (value, made) = value_of_atom(at, node);
-            let after = step_to(rules, site, made, frames, Focus::Returned(at, value))?;
-            Ok(Progress::Goes(after))
+            let after = step_to(program, site, made, frames, Focus::Returned(at, value))?;
+            Ok(Next::Goes(after))
         }
     }
 }
@@ -103,20 +103,20 @@ fn evaluate_atom(
 /// The first part of a node is looked at, or the node is a value.
 pub(crate) fn evaluate(
     alloc: Global,
-    rules: &Rules<'_>,
+    program: &MeasuredProgram<'_>,
     here: World,
     site: Site,
     frames: FrameQueue,
     given: (World, Node),
-) -> Result<Progress, AllocError>
+) -> Result<Next, AllocError>
     requires { HasRoom site }
-    ensures { IfOk result (λ a. Stands rules.now here a (evaluated rules.now (with_front (thread_of frames (Eval given.0 given.1)) site) site.threads frames given.0 given.1 (parts given.1))) }
+    ensures { IfOk result (λ a. Stands program.now here a (evaluated program.now (with_front (thread_of frames (Eval given.0 given.1)) site) site.threads frames given.0 given.1 (parts given.1))) }
 {
     let (at, node) = given;
     if count_of_parts(&node) == 0 {
-        evaluate_atom(alloc, rules, here, site, frames, (at, node))
+        evaluate_atom(alloc, program, here, site, frames, (at, node))
     } else {
-        let after = begin_part(alloc, rules, site, frames, at, node, 0)?;
-        Ok(Progress::Goes(after))
+        let after = begin_part(alloc, program, site, frames, at, node, 0)?;
+        Ok(Next::Goes(after))
     }
 }
