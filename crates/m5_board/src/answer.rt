@@ -309,7 +309,14 @@ impl<I: Item> Board<I> {
     {
         let act = act_of_write(alloc, &key, &text)?;
         let watchers = self.keys.watchers(alloc, key.bytes())?;
-        write_told(alloc, &mut self.keys, &mut self.desks, watchers.as_slice(), key, text)?;
+        write_told(
+            alloc,
+            &mut self.keys,
+            &mut self.desks,
+            watchers.as_slice(),
+            key,
+            text,
+        )?;
         Ok(done(act))
     }
 

@@ -1,9 +1,7 @@
 mod Eachs
-mod Stored
 pub mod Freely
 pub mod Looks
 pub mod Arriving
-pub mod Opened
 pub mod Onward
 pub mod Asking
 pub mod Silence

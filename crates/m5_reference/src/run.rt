@@ -13,9 +13,10 @@ ghost use Rattle.m5_reference.specs.Reference.{IsReferenceRun};
 ghost use Rattle.m5_reference.specs.Running.{IsReady, StandsFor};
 
 use crate::moment::Limits;
-use crate::opening::{open_board, open_sites};
+use crate::opening::open_sites;
 use crate::rounds::{all_sites, take_rounds};
 use crate::running::{Going, Running, take_turns};
+use m5_board::board::Board;
 use m5_script::script::Script;
 use m5_source_site::rules::Rules;
 use m5_terms::ask::{Act, End, Entries, Entry, History};
@@ -43,7 +44,7 @@ fn open(alloc: Global, rules: &Rules<'_>, script: &Script) -> Result<Running, Al
 {
     Ok(Running {
         rows: open_sites(alloc, rules, script.sessions)?,
-        board: open_board(alloc, script)?,
+        board: Board::opening(alloc, script)?,
         entries: Entries::make(alloc),
     })
 }
