@@ -1,8 +1,6 @@
 mod Eachs
-mod Stored
 pub mod NextMoment
 pub mod Looks
-pub mod Opened
 pub mod Asking
 pub mod Silence
 pub mod Turns

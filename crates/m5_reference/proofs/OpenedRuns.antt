@@ -20,7 +20,7 @@ use Rattle.m5_board.specs.Boards.{board_of}
 use Rattle.m5_reference.specs.Ahead.{IsAhead}
 use Rattle.m5_reference.specs.ClosedTurn.{IsClosedBoard, IsClosedLeft}
 use Rattle.m5_reference.specs.Finishing.{Opens}
-use Rattle.m5_reference.specs.OpeningLists.{sites_opened}
+use Rattle.m5_reference.specs.Opening.{sites_opened}
 use Rattle.m5_reference.specs.Sites.{SessionSites, site_in, site_of_session, site_at}
 use Rattle.m5_reference.specs.declared.running.Running.{Running}
 use Rattle.m5_reference.proofs.NextMoment.{begin_free}

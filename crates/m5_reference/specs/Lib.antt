@@ -1,7 +1,7 @@
 pub mod Budget
 pub mod Reference
 pub mod Moments
-pub mod OpeningLists
+pub mod Opening
 pub mod Sites
 pub mod Running
 pub mod Finishing

@@ -12,9 +12,10 @@ ghost use Rattle.m5_reference.specs.Reference.{IsReferenceRun};
 ghost use Rattle.m5_reference.specs.Running.{IsReady, StandsFor};
 
 use crate::limits::Limits;
-use crate::opening::{open_board, open_sites};
+use crate::opening::open_sites;
 use crate::rounds::{all_sites, take_rounds};
 use crate::running::{Going, Running, take_turns};
+use m5_board::board::Board;
 use m5_script::script::Script;
 use m5_source_site::measured::MeasuredProgram;
 use m5_terms::ask::{Act, End, Entries, Entry, History};
@@ -46,7 +47,7 @@ fn open(
     program.closed_holds();
     Ok(Running {
         sites: open_sites(alloc, program, script.sessions)?,
-        board: open_board(alloc, script)?,
+        board: Board::opening(alloc, script)?,
         entries: Entries::make(alloc),
     })
 }

@@ -1,5 +1,5 @@
 use Rattle.std.proofs.Common.{◌≡◌, replicate}
-use Rattle.m5_reference.specs.OpeningLists.{sites_opened}
+use Rattle.m5_reference.specs.Opening.{sites_opened}
 use Rattle.m5_reference.proofs.opening.open_sites.Given as goal
 
 abbrev pub invariant-loop-number : goal.invariant-loop-number
