@@ -93,7 +93,7 @@ without() { comm -23 <(printf '%s\n' $1 | LC_ALL=C sort -u) <(printf '%s\n' $2 |
 believed=$(reached $headline) || exit 1
 besides=$(reached $claims) || exit 1
 besides=$(without "$besides" "$believed")
-all=$(cd crates && find . -path '*/specs/*' -name '*.antt' ! -name Lib.antt | sed 's/^\.\///; s/\.antt$//')
+all=$(cd crates && find . -path './*/specs/*' ! -path './*/out/*' -name '*.antt' ! -name Lib.antt | sed 's/^\.\///; s/\.antt$//')
 rest=$(without "$all" "$believed $besides")
 
 problems=$(mktemp) || exit 1

@@ -1,8 +1,9 @@
 -- Answers of the board, from what happens to its parts.
 use Rattle.std.proofs.Common.{◌≡◌, ℕ, zero, suc, ◌+◌, ◌<◌, Bool, List, [], ◌∷◌, length, get_or, drop, Option, Some, None, refl, sym, ap, ◌∙◌, subst, arith}
-use Rattle.std.specs.Prelude.{Result, Ok, Err, IfOk, MatchOption}
+use Rattle.std.specs.Prelude.{Result, IfOk, MatchOption, slice_get}
 use Rattle.std.specs.declared.alloc.AllocError.{AllocError}
-use Rattle.std.proofs.lemmas.Bool.{eq-eqb}
+use Rattle.std.specs.Option.{unwrap_or}
+use Rattle.std.proofs.lemmas.Option.{none-some}
 use Rattle.m5_terms.specs.Worlds.{site_worlds}
 use Rattle.m5_terms.specs.declared.types.World.TheVariants.{Home, Server}
 use Rattle.m5_terms.specs.declared.ask.Act.TheVariants as act
@@ -13,7 +14,7 @@ use Rattle.m5_terms.specs.declared.types.World.{World}
 use Rattle.m5_terms.specs.declared.ask.Act.{Act}
 use Rattle.m5_terms.specs.declared.ask.AskOf.{AskOf}
 use Rattle.m5_terms.specs.declared.ask.AnswerOf.{AnswerOf}
-use Rattle.m5_network.specs.Board.{Desk, Board, Event, Trigger, answered, answered_at, at_session, link, with_link, take_from, take_at, take_other, handlers_of}
+use Rattle.m5_network.specs.Board.{Desk, Board, Event, Trigger, answered, answered_at, link, with_link, take_from, take_at, take_other, handlers_of}
 use Rattle.m5_network.specs.Board as network
 use Rattle.m5_network.specs.Entries.{shown}
 use Rattle.m5_board.specs.Boards.{BoardLists, board_of, desk_at, ChangesDesk, Receives, TakesEvent, TakesTrigger}
@@ -62,26 +63,27 @@ passed {I} b m n s w vs k d X l e q f h =
     let j : k + 1 ≡ suc k = omega arith in
     (ap (λ (z : BoardLists I). take_at (board_of z) s w (drop (k + 1) vs)) q ∙ rw j (passed-one (board_of m) s w vs k d X l f h), q ∙ e)
 
-same-session : {I : Type 0} (s : ℕ) (D : Desk I) (f : ℕ → Desk I) → at_session s D f s ≡ D
-same-session s D f = rw (eq-eqb s s refl) refl
+-- what is taken is what stood first
+taken : {X : Type 0} (S : Type 0) (r : Option X) (xs : List X) (x : X) (P : X → Type 0) → ((y : X) → P y → (rest : List X) × (xs ≡ y ∷ rest)) → Some x ≡ slice_get xs 0 → MatchOption r ((xs ≡ []) × S) P → P x
+taken {X} S None xs x P first f h = absurd (none-some x (sym (f ∙ ap (λ (zs : List X). slice_get zs 0) h.0)))
+taken {X} S (Some y) xs x P first f h =
+    let e : Some x ≡ Some y = f ∙ ap (λ (zs : List X). slice_get zs 0) (first y h).1 in
+    subst P (sym (ap (λ (o : Option X). unwrap_or o x) e)) h
 
-pub an-event : {I : Type 0} (seal : I → Bool) (r : Result (Answered I) AllocError) (i b c : BoardLists I) (s : ℕ) (x : Event) → i ≡ b → TakesEvent s x i.desks c.desks → c.pairs ≡ i.pairs → c.watches ≡ i.watches →
-    IfOk r (λ a. a.reply ≡ answer.Event x.element (handlers_of (desk_at c.desks s).handlers x.element) x.text) → IfOk r (λ a. a.act ≡ act.Event x.element x.text) →
-    IfOk r (λ a. IsAnsweredBy seal (take_other (board_of b) s Home) ask.Take c a)
-an-event seal (Err y) i b c s x z h p q e f = tt
-an-event {I} seal (Ok a) i b c s x z h p q e f =
-    let same : desk_at c.desks s ≡ record (desk_at i.desks s) { events = h.rest } = ap (λ (D : ℕ → Desk I). D s) h.changes.desk ∙ same-session s _ (desk_at i.desks) in
-    let ns : handlers_of (desk_at c.desks s).handlers x.element ≡ handlers_of (desk_at i.desks s).handlers x.element = ap (λ (D : Desk I). handlers_of D.handlers x.element) same in
-    let reply : a.reply ≡ answer.Event x.element (handlers_of (desk_at i.desks s).handlers x.element) x.text = e ∙ ap (λ (m : List ℕ). answer.Event x.element m x.text) ns in
+pub an-event : {I : Type 0} (seal : I → Bool) (r : Option Event) (i b c : BoardLists I) (s : ℕ) (x : Event) (a : Answered I) → i ≡ b → Some x ≡ slice_get (desk_at i.desks s).events 0
+    → MatchOption r (((desk_at i.desks s).events ≡ []) × (c.desks ≡ i.desks)) (λ e. TakesEvent s e i.desks c.desks) → c.pairs ≡ i.pairs → c.watches ≡ i.watches
+    → a.reply ≡ answer.Event x.element (handlers_of (desk_at i.desks s).handlers x.element) x.text → a.act ≡ act.Event x.element x.text → IsAnsweredBy seal (take_other (board_of b) s Home) ask.Take c a
+an-event {I} seal r i b c s x a z o m p q e f =
+    let h : TakesEvent s x i.desks c.desks = taken _ r (desk_at i.desks s).events x (λ (y : Event). TakesEvent s y i.desks c.desks) (λ y t. (t.rest, t.first)) o m in
     let from : IsAnsweredBy seal (take_other (board_of i) s Home) ask.Take c a =
-    rw h.first (by-desk seal i i c s (λ (d : Desk I). record d { events = h.rest }) ask.Take (answer.Event x.element (handlers_of (desk_at i.desks s).handlers x.element) x.text) a.act a refl (λ k. record { reply = reply k; act = a.act }) f p q h.changes) in
+    rw h.first (by-desk seal i i c s (λ (d : Desk I). record d { events = h.rest }) ask.Take (answer.Event x.element (handlers_of (desk_at i.desks s).handlers x.element) x.text) a.act a refl (λ k. record { reply = e k; act = a.act }) f p q h.changes) in
     subst (λ (u : BoardLists I). IsAnsweredBy seal (take_other (board_of u) s Home) ask.Take c a) z from
 
-pub a-trigger : {I : Type 0} (seal : I → Bool) (r : Result (Answered I) AllocError) (i b c : BoardLists I) (s : ℕ) (x : Trigger) → i ≡ b → TakesTrigger s x i.desks c.desks → c.pairs ≡ i.pairs → c.watches ≡ i.watches →
-    IfOk r (λ a. a.reply ≡ answer.Fired x.key x.number x.text) → IfOk r (λ a. a.act ≡ act.Fire x.key) →
-    IfOk r (λ a. IsAnsweredBy seal (take_other (board_of b) s Server) ask.Take c a)
-a-trigger seal (Err y) i b c s x z h p q e f = tt
-a-trigger {I} seal (Ok a) i b c s x z h p q e f =
+pub a-trigger : {I : Type 0} (seal : I → Bool) (r : Option Trigger) (i b c : BoardLists I) (s : ℕ) (x : Trigger) (a : Answered I) → i ≡ b → Some x ≡ slice_get (desk_at i.desks s).triggers 0
+    → MatchOption r (((desk_at i.desks s).triggers ≡ []) × (c.desks ≡ i.desks)) (λ t. TakesTrigger s t i.desks c.desks) → c.pairs ≡ i.pairs → c.watches ≡ i.watches
+    → a.reply ≡ answer.Fired x.key x.number x.text → a.act ≡ act.Fire x.key → IsAnsweredBy seal (take_other (board_of b) s Server) ask.Take c a
+a-trigger {I} seal r i b c s x a z o m p q e f =
+    let h : TakesTrigger s x i.desks c.desks = taken _ r (desk_at i.desks s).triggers x (λ (y : Trigger). TakesTrigger s y i.desks c.desks) (λ y t. (t.rest, t.first)) o m in
     let from : IsAnsweredBy seal (take_other (board_of i) s Server) ask.Take c a =
     rw h.first (by-desk seal i i c s (λ (d : Desk I). record d { triggers = h.rest }) ask.Take (answer.Fired x.key x.number x.text) a.act a refl (λ k. record { reply = e k; act = a.act }) f p q h.changes) in
     subst (λ (u : BoardLists I). IsAnsweredBy seal (take_other (board_of u) s Server) ask.Take c a) z from

@@ -1,10 +1,12 @@
 -- One desk is changed.
-use Rattle.std.proofs.Common.{◌≡◌, ℕ, zero, suc, ◌-◌, ◌<◌, ◌==◌, List, [], ◌∷◌, length, get_or, Option, Some, None, refl, sym, ap, ◌∙◌, if◌then◌else◌, arith}
+use Rattle.std.proofs.Common.{◌≡◌, ℕ, zero, suc, ◌-◌, ◌<◌, ◌==◌, List, [], ◌∷◌, ◌++◌, length, get_or, Option, Some, None, refl, sym, ap, ◌∙◌, if◌then◌else◌, arith}
 use Rattle.std.specs.Prelude.{slice_get, slice_set, Result, Ok, Err, OnOk, OnErr, MatchOption}
+use Rattle.std.proofs.lemmas.Bool.{eq-eqb}
 use Rattle.std.proofs.Math.Dec.{eqb-suc-zero, eqb-zero-suc, eqb-suc-suc}
 use Rattle.m5_terms.specs.declared.types.World.{World}
 use Rattle.m5_network.specs.Board.{Desk, Trigger, Event, at_session, link, with_link}
-use Rattle.m5_board.specs.Boards.{IsSession, desk_at, desk_or_empty, ChangesDesk, TakesLink, Receives, TakesTrigger, TakesEvent}
+use Rattle.m5_board.specs.Answers.{fired}
+use Rattle.m5_board.specs.Boards.{IsUnfired, IsSession, desk_at, desk_or_empty, ChangesDesk, TakesLink, Receives, TakesTrigger, TakesEvent}
 
 -- the place that is set, and the others
 at-place : {I : Type 0} (ds : List (Desk I)) (k j : ℕ) (d : Desk I) → k < length ds → desk_or_empty (slice_get (slice_set ds k d) j) ≡ (if j == k then d else desk_or_empty (slice_get ds j))
@@ -90,3 +92,29 @@ receives {I} (Some x) from to ds s k old new h e q c =
       first = ap (λ (D : Desk I). link D from to) (the-desk ds s k old h e q) ∙ c.first;
       changes = changed ds s k old new (with_link from to (link new from to)) h e q c.after;
     }
+
+pub same-session : {I : Type 0} (s : ℕ) (D : Desk I) (f : ℕ → Desk I) → at_session s D f s ≡ D
+same-session s D f = rw (eq-eqb s s refl) refl
+
+put-back : {A : Type 0} (z s : ℕ) (f : ℕ → A) (x : A) → (if z == s then f s else (if z == s then x else f z)) ≡ f z
+put-back zero zero f x = refl
+put-back zero (suc s) f x = rw (eqb-zero-suc s) refl
+put-back (suc z) zero f x = rw (eqb-suc-zero z) refl
+put-back (suc z) (suc s) f x = rw (eqb-suc-suc z s) (put-back z s (λ n. f (suc n)) x)
+
+-- the trigger that a session got last is taken off
+pub unfires : {I : Type 0} (ds : List (Desk I)) (s k : ℕ) (old new : Desk I) → IsSession s ds → k ≡ s - 1 → old ≡ get_or ds k old → IsUnfired old new → (f : ℕ → Desk I) (t : Trigger) → desk_at ds ≡ fired t s f → desk_at (slice_set ds k new) ≡ f
+unfires {I} ds s k old new h e q u f t p =
+    let X : Desk I = record (f s) { triggers = (f s).triggers ++ t ∷ [] } in
+    let was : old ≡ X = sym (the-desk ds s k old h e q) ∙ (ap (λ (D : ℕ → Desk I). D s) p ∙ same-session s X f) in
+    set-desk ds s k new (f s) h e (u (f s) t was) ∙ (ap (at_session s (f s)) p ∙ (λ i. λ z. put-back z s f X i))
+
+same-each : {I : Type 0} (ds es : List (Desk I)) → length ds ≡ length es → ((k : ℕ) → desk_or_empty (slice_get ds k) ≡ desk_or_empty (slice_get es k)) → ds ≡ es
+same-each [] [] l h = refl
+same-each [] (e ∷ es) l h = absurd (omega (arith, l))
+same-each (d ∷ ds) [] l h = absurd (omega (arith, l))
+same-each (d ∷ ds) (e ∷ es) l h = λ i. h 0 i ∷ same-each ds es (omega (arith, l)) (λ k. h (suc k)) i
+
+-- lists of as many desks with the same at each session are the same
+pub same-desks : {I : Type 0} (ds es : List (Desk I)) → length ds ≡ length es → desk_at ds ≡ desk_at es → ds ≡ es
+same-desks {I} ds es l h = same-each ds es l (λ k. ap (λ (D : ℕ → Desk I). D (suc k)) h)

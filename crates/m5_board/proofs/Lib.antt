@@ -1,3 +1,6 @@
 pub mod DeskChanges
 pub mod Telling
 pub mod Answering
+mod Eachs
+mod Stored
+pub mod Opened

@@ -3,7 +3,7 @@ use Rattle.std.specs.Prelude.{◌≡◌, ℕ, Bool, List, [], ◌∷◌, ◌++�
 use Rattle.m5_terms.specs.declared.ask.AskOf.{AskOf}
 use Rattle.m5_terms.specs.declared.types.World.{World}
 use Rattle.m5_keys.specs.declared.watch.Watcher.{Watcher}
-use Rattle.m5_network.specs.Board.{Desk, answer_of, at_session}
+use Rattle.m5_network.specs.Board.{Trigger, Desk, answer_of, at_session}
 use Rattle.m5_network.specs.Board as network
 use Rattle.m5_network.specs.Entries.{shown}
 use Rattle.m5_board.specs.Boards.{BoardLists, board_of}
@@ -19,8 +19,11 @@ pub record IsAnsweredBy {Item : Type 0} (seal : Item → Bool) (x : network.Answ
 abbrev pub IsAnswered : {Item : Type 0} → (Item → Bool) → ℕ → World → AskOf Item → BoardLists Item → BoardLists Item → Answered Item → Type 0
 IsAnswered seal s w q old new a = IsAnsweredBy seal (answer_of (board_of old) s w q) q new a
 
+-- the session's desk with the trigger behind the others, and every other one stays
+abbrev pub fired : {Item : Type 0} → Trigger → ℕ → (ℕ → Desk Item) → ℕ → Desk Item
+fired t s desks = at_session s (record (desks s) { triggers = (desks s).triggers ++ t ∷ [] }) desks
+
 -- one trigger for each watcher, in order of registration, to its session
 abbrev pub told : {Item : Type 0} → List ℕ → List ℕ → List Watcher → (ℕ → Desk Item) → ℕ → Desk Item
 told key text [] desks = desks
-told key text (w ∷ ws) desks =
-    told key text ws (at_session w.session (record (desks w.session) { triggers = (desks w.session).triggers ++ record { key = key; number = w.number; text = text } ∷ [] }) desks)
+told key text (w ∷ ws) desks = told key text ws (fired (record { key = key; number = w.number; text = text }) w.session desks)

@@ -1,5 +1,5 @@
 -- The board with the desks in a list, and the changes of its desks.
-use Rattle.std.specs.Prelude.{◌≡◌, ℕ, zero, suc, ◌≤◌, List, [], ◌∷◌, length, Option, Some, None, slice_get, All}
+use Rattle.std.specs.Prelude.{◌≡◌, ℕ, zero, suc, ◌≤◌, List, [], ◌∷◌, ◌++◌, length, Option, Some, None, slice_get, All}
 use Rattle.m5_terms.specs.declared.types.World.{World}
 use Rattle.m5_terms.specs.PerWorld.{each}
 use Rattle.m5_script.specs.declared.items.TextPair.{TextPair}
@@ -9,6 +9,10 @@ use Rattle.m5_network.specs.Board.{Watch, Trigger, Event, Desk, Board, link, wit
 pub record TakesLink {Item : Type 0} (v w : World) (i : Item) (old new : Desk Item) : Type 0 where
   pub first : link old v w ≡ i ∷ link new v w
   pub after : new ≡ with_link v w (link new v w) old
+
+-- where a trigger was added last, it is taken off
+abbrev pub IsUnfired : {Item : Type 0} → Desk Item → Desk Item → Type 0
+IsUnfired {Item} old new = (d : Desk Item) → (t : Trigger) → old ≡ record d { triggers = d.triggers ++ t ∷ [] } → new ≡ d
 
 pub record BoardLists (Item : Type 0) : Type 0 where
   pub pairs : List TextPair

@@ -1,13 +1,13 @@
 //! The board's answer to each ask.
 
-ghost use Rattle.std.specs.Prelude.{◌≡◌, ℕ, [], ◌∷◌, ◌++◌, All, length, IfOk, OnOk, OnErr, MatchOption};
+ghost use Rattle.std.specs.Prelude.{◌≡◌, ℕ, List, [], ◌∷◌, ◌++◌, All, length, IfOk, OnOk, OnErr, MatchOption};
 ghost use Rattle.m5_terms.specs.Worlds.{IsSiteWorld, site_worlds};
 ghost use Rattle.m5_terms.specs.declared.types.World.{World};
 ghost use Rattle.m5_terms.specs.declared.types.World.TheVariants.{Home, Server};
 ghost use Rattle.m5_terms.specs.declared.ask.AskOf.TheVariants as ask;
 ghost use Rattle.m5_terms.specs.declared.ask.AnswerOf.TheVariants as answer;
-ghost use Rattle.m5_keys.specs.declared.watch.Watcher.{Watcher};
-ghost use Rattle.m5_network.specs.Board.{answer_of, answered, take_at, take_from, take_other, handlers_of, link};
+ghost use Rattle.m5_keys.specs.declared.watch.Watcher.{Watcher as WatcherOf};
+ghost use Rattle.m5_network.specs.Board.{Desk as DeskOf, answer_of, answered, take_at, take_from, take_other, handlers_of, link};
 ghost use Rattle.m5_network.specs.Board as network;
 ghost use Rattle.m5_network.specs.Entries.{shown};
 ghost use Rattle.m5_board.specs.Boards.{board_of, desk_at, IsSession};
@@ -15,7 +15,10 @@ ghost use Rattle.m5_board.specs.Answers.{IsAnswered, IsAnsweredBy, told};
 
 use crate::board::{Answered, Board};
 use crate::desk::Desk;
-use crate::desks::{fire, on, receive, send, set_text, take_event, take_trigger};
+use crate::desks::{
+    fire, next_event, next_trigger, on, receive, send, set_text, take_event, take_trigger, unfire,
+};
+use m5_keys::keys::Keys;
 use m5_keys::watch::{Trigger, Watcher};
 use m5_page::row::Event;
 use m5_terms::ask::{Act, AnswerOf, AskOf};
@@ -136,12 +139,26 @@ fn post_one<I>(
     requires { IsSession watcher.now.session desks.old.items }
     ensures desks { OnOk result (desk_at desks.new.items ≡ told key.now text.now (watcher.now ∷ []) (desk_at desks.old.items)) }
     ensures count { length desks.new.items ≡ length desks.old.items }
+    ensures err { OnErr result (desks.new.items ≡ desks.old.items) }
 {
     let trigger = trigger_of(alloc, watcher, key, text)?;
     fire(desks, watcher.session, trigger)
 }
 
-/// Adds a trigger for each watcher, in order.
+/// Takes off what was added last for these watchers.
+fn unpost<I>(desks: &mut Vec<Desk<I>>, watchers: &[Watcher])
+    requires { All (λ (w : WatcherOf). IsSession w.session desks.old.items) watchers.now }
+    ensures restored { (key text : List ℕ) (before : List (DeskOf I)) → length before ≡ length desks.old.items → desk_at desks.old.items ≡ told key text watchers.now (desk_at before) → desks.new.items ≡ before }
+    ensures count { length desks.new.items ≡ length desks.old.items }
+{
+    let mut left = watchers.len();
+    while left > 0 {
+        left -= 1;
+        unfire(desks, watchers[left].session);
+    }
+}
+
+/// Adds a trigger for each watcher, in order. Where memory is wanting, the desks stay as they were.
 fn post<I>(
     alloc: Global,
     desks: &mut Vec<Desk<I>>,
@@ -149,14 +166,48 @@ fn post<I>(
     key: &Text,
     text: &Text,
 ) -> Result<(), AllocError>
-    requires { All (λ (w : Watcher). IsSession w.session desks.old.items) watchers.now }
+    requires { All (λ (w : WatcherOf). IsSession w.session desks.old.items) watchers.now }
     ensures desks { OnOk result (desk_at desks.new.items ≡ told key.now text.now watchers.now (desk_at desks.old.items)) }
     ensures count { length desks.new.items ≡ length desks.old.items }
+    ensures err { OnErr result (desks.new.items ≡ desks.old.items) }
 {
-    for watcher in watchers {
-        post_one(alloc, desks, watcher, key, text)?;
+    for index in 0..watchers.len() {
+        match post_one(alloc, desks, &watchers[index], key, text) {
+            Ok(()) => {}
+            Err(error) => {
+                unpost(desks, &watchers[..index]);
+                return Err(error);
+            }
+        }
     }
     Ok(())
+}
+
+/// Writes the text of a key, of which these are told. Where memory is wanting, the key store and the
+/// desks stay as they were.
+fn write_told<I>(
+    alloc: Global,
+    keys: &mut Keys,
+    desks: &mut Vec<Desk<I>>,
+    watchers: &[Watcher],
+    key: Text,
+    text: Text,
+) -> Result<(), AllocError>
+    requires { All (λ (w : WatcherOf). IsSession w.session desks.old.items) watchers.now }
+    ensures desks { OnOk result (desk_at desks.new.items ≡ told key text watchers.now (desk_at desks.old.items)) }
+    ensures keys { OnOk result (keys.new ≡ record keys.old { pairs = network.set_at keys.old.pairs key text }) }
+    ensures count { length desks.new.items ≡ length desks.old.items }
+    ensures err_desks { OnErr result (desks.new.items ≡ desks.old.items) }
+    ensures err_keys { OnErr result (keys.new ≡ keys.old) }
+{
+    post(alloc, desks, watchers, &key, &text)?;
+    match keys.write(key, text) {
+        Ok(()) => Ok(()),
+        Err(error) => {
+            unpost(desks, watchers);
+            Err(error)
+        }
+    }
 }
 
 impl<I: Item> Board<I> {
@@ -254,11 +305,18 @@ impl<I: Item> Board<I> {
     ) -> Result<Answered<I>, AllocError>
         ensures answered { (w : World) → IfOk result (λ a. IsAnswered (I.has_seal session) session w (ask.Write key text) self.old self.new a) }
         ensures count { length self.new.desks ≡ length self.old.desks }
+        ensures err { OnErr result (self.new ≡ self.old) }
     {
         let act = act_of_write(alloc, &key, &text)?;
         let watchers = self.keys.watchers(alloc, key.bytes())?;
-        post(alloc, &mut self.desks, watchers.as_slice(), &key, &text)?;
-        self.keys.write(key, text)?;
+        write_told(
+            alloc,
+            &mut self.keys,
+            &mut self.desks,
+            watchers.as_slice(),
+            key,
+            text,
+        )?;
         Ok(done(act))
     }
 
@@ -314,24 +372,32 @@ impl<I: Item> Board<I> {
         requires { IsSession session self.old.desks }
         ensures answered { IfOk result (λ a. IsAnsweredBy (I.has_seal session) (take_other (board_of self.old) session Home) ask.Take self.new a) }
         ensures count { length self.new.desks ≡ length self.old.desks }
+        ensures err { OnErr result (self.new ≡ self.old) }
     {
-        match take_event(&mut self.desks, session) {
-            Some(event) => return happened(alloc, self.desks.as_slice(), session, event),
-            None => {}
+        match next_event(alloc, self.desks.as_slice(), session)? {
+            Some(event) => {
+                let answered = happened(alloc, self.desks.as_slice(), session, event)?;
+                take_event(&mut self.desks, session);
+                Ok(answered)
+            }
+            None => Ok(nothing()),
         }
-        Ok(nothing())
     }
 
     fn take_trigger(&mut self, alloc: Global, session: u32) -> Result<Answered<I>, AllocError>
         requires { IsSession session self.old.desks }
         ensures answered { IfOk result (λ a. IsAnsweredBy (I.has_seal session) (take_other (board_of self.old) session Server) ask.Take self.new a) }
         ensures count { length self.new.desks ≡ length self.old.desks }
+        ensures err { OnErr result (self.new ≡ self.old) }
     {
-        match take_trigger(&mut self.desks, session) {
-            Some(trigger) => return fired(alloc, trigger),
-            None => {}
+        match next_trigger(alloc, self.desks.as_slice(), session)? {
+            Some(trigger) => {
+                let answered = fired(alloc, trigger)?;
+                take_trigger(&mut self.desks, session);
+                Ok(answered)
+            }
+            None => Ok(nothing()),
         }
-        Ok(nothing())
     }
 
     /// What is new for the session's site at a world.
@@ -340,6 +406,7 @@ impl<I: Item> Board<I> {
         requires at { IsSiteWorld at }
         ensures answered { IfOk result (λ a. IsAnswered (I.has_seal session) session at ask.Take self.old self.new a) }
         ensures count { length self.new.desks ≡ length self.old.desks }
+        ensures err { OnErr result (self.new ≡ self.old) }
     {
         match self.take_message(session, at) {
             Some((from, item)) => return Ok(received(session, from, item)),
@@ -352,7 +419,8 @@ impl<I: Item> Board<I> {
         }
     }
 
-    /// The answer to what a session's site at a world asks, and what the history shows of it.
+    /// The answer to what a session's site at a world asks, and what the history shows of it. Where
+    /// memory is wanting, the board stays as it was.
     pub fn answer(
         &mut self,
         alloc: Global,
@@ -364,6 +432,7 @@ impl<I: Item> Board<I> {
         requires at { IsSiteWorld at }
         ensures answered { IfOk result (λ a. IsAnswered (I.has_seal session) session at asked self.old self.new a) }
         ensures count { length self.new.desks ≡ length self.old.desks }
+        ensures err { OnErr result (self.new ≡ self.old) }
     {
         match asked {
             AskOf::Say(text) => Ok(done(Act::Say(text))),

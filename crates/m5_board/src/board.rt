@@ -33,7 +33,7 @@ pub struct Answered<I> {
 
 impl<I> Board<I> {
     /// A board without watches, over a key store and what each session has.
-    pub fn without_watches(keys: Keys, desks: Vec<Desk<I>>) -> Board<I>
+    pub(crate) fn without_watches(keys: Keys, desks: Vec<Desk<I>>) -> Board<I>
         requires { keys.watches ≡ [] }
         ensures { result ≡ record { pairs = keys.pairs; watches = []; desks = desks.items } }
     {

@@ -1,10 +1,10 @@
 //! What one session has: its page, its triggers, the events left and its links.
 
-ghost use Rattle.std.specs.Prelude.{◌≡◌, [], ◌∷◌, ◌++◌, IfOk, OnOk, OnErr, MatchOption};
+ghost use Rattle.std.specs.Prelude.{◌≡◌, [], ◌∷◌, ◌++◌, slice_get, IfOk, OnOk, OnErr, MatchOption};
 ghost use Rattle.std.specs.Option.{unwrap_or};
 ghost use Rattle.m5_terms.specs.Worlds.{IsSiteWorld};
 ghost use Rattle.m5_network.specs.Board.{text_at, set_at, handlers_of, link, with_link};
-ghost use Rattle.m5_board.specs.Boards.{TakesLink};
+ghost use Rattle.m5_board.specs.Boards.{TakesLink, IsUnfired};
 
 use m5_keys::watch::Trigger;
 use m5_page::page::Page;
@@ -32,6 +32,26 @@ impl<I> Model for Desk<I> {
     ghost Value = { Desk I };
 
     ghost view = { λ d. record { texts = d.page.texts; handlers = d.page.handlers; triggers = d.triggers; events = d.events; links = d.links } };
+}
+
+fn copy_of_trigger(alloc: Global, trigger: &Trigger) -> Result<Trigger, AllocError>
+    ensures { IfOk result (λ t. t ≡ trigger.now) }
+{
+    let key = trigger.key.copy(alloc)?;
+    let text = trigger.text.copy(alloc)?;
+    Ok(Trigger {
+        key,
+        number: trigger.number,
+        text,
+    })
+}
+
+fn copy_of_event(alloc: Global, event: &Event) -> Result<Event, AllocError>
+    ensures { IfOk result (λ e. e ≡ event.now) }
+{
+    let element = event.element.copy(alloc)?;
+    let text = event.text.copy(alloc)?;
+    Ok(Event { element, text })
 }
 
 impl<I> Desk<I> {
@@ -85,6 +105,33 @@ impl<I> Desk<I> {
         ensures err { OnErr result (self.new ≡ self.old) }
     {
         self.triggers.push_back(trigger)
+    }
+
+    /// Takes off the trigger that was added last.
+    pub fn unfire(&mut self)
+        ensures { IsUnfired self.old self.new }
+    {
+        let _last = self.triggers.pop_back();
+    }
+
+    /// The first trigger, again in memory of its own.
+    pub fn next_trigger(&self, alloc: Global) -> Result<Option<Trigger>, AllocError>
+        ensures { IfOk result (λ o. o ≡ slice_get self.now.triggers 0) }
+    {
+        match self.triggers.front() {
+            Some(trigger) => Ok(Some(copy_of_trigger(alloc, trigger)?)),
+            None => Ok(None),
+        }
+    }
+
+    /// The next event, again in memory of its own.
+    pub fn next_event(&self, alloc: Global) -> Result<Option<Event>, AllocError>
+        ensures { IfOk result (λ o. o ≡ slice_get self.now.events 0) }
+    {
+        match self.events.front() {
+            Some(event) => Ok(Some(copy_of_event(alloc, event)?)),
+            None => Ok(None),
+        }
     }
 
     pub fn take_trigger(&mut self) -> Option<Trigger>

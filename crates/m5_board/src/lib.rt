@@ -6,3 +6,4 @@ pub mod answer;
 pub mod board;
 pub mod desk;
 mod desks;
+pub mod opening;

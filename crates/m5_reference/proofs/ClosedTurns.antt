@@ -13,13 +13,13 @@ use Rattle.m5_meaning.specs.Step.{after_take, site_next}
 use Rattle.m5_script.specs.Scenario.{Scenario}
 use Rattle.m5_network.specs.Board.{Board, answer_of}
 use Rattle.m5_source_site.specs.ClosedSite.{IsClosedSite, IsClosedNext}
-use Rattle.m5_source_site.specs.Waits.{resumed}
+use Rattle.m5_source_site.specs.Waiting.{resumed}
 use Rattle.m5_source_site.specs.declared.resume.Wait.{Wait}
 use Rattle.m5_reference.specs.Ahead.{kept}
 use Rattle.m5_reference.specs.ClosedTurn.{IsClosedBoard, IsClosedLeft, IsClosedTurned}
 use Rattle.m5_network.specs.FirstMoment.{AsksFree}
 use Rattle.m5_reference.specs.Turning.{IsAskTurned}
-use Rattle.m5_reference.specs.declared.moment.Limits.{Limits}
+use Rattle.m5_reference.specs.declared.limits.Limits.{Limits}
 use Rattle.m5_reference.specs.declared.turn.Turned.{Turned}
 use Rattle.m5_reference.specs.declared.turn.Turned.TheVariants as turned
 use Rattle.m5_network.proofs.Asking.{looks}

@@ -21,7 +21,7 @@ use Rattle.m5_meaning.specs.Reduction.{Reduced, gives, makes_text, goes_on, make
 use Rattle.m5_meaning.specs.Reduction as reduction
 use Rattle.m5_meaning.specs.Step.{SiteNext, step_weight, is_full, stops_full, atom, loaded, stored, outcome, part_begun, evaluated, returned, focused, after_take, front, site_next, next_weight}
 use Rattle.m5_script.specs.Scenario.{Scenario}
-use Rattle.m5_reference.specs.declared.moment.Limits.{Limits}
+use Rattle.m5_reference.specs.declared.limits.Limits.{Limits}
 use Rattle.m5_network.specs.FirstMoment.{MayStop, IsFree}
 use Rattle.m5_reference.specs.Moments.{HasLimits}
 

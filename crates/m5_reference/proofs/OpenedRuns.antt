@@ -20,10 +20,10 @@ use Rattle.m5_board.specs.Boards.{board_of}
 use Rattle.m5_reference.specs.Ahead.{IsAhead}
 use Rattle.m5_reference.specs.ClosedTurn.{IsClosedBoard, IsClosedLeft}
 use Rattle.m5_reference.specs.Finishing.{Opens}
-use Rattle.m5_reference.specs.OpeningLists.{sites_opened}
-use Rattle.m5_reference.specs.SiteRows.{SessionSites, site_in, site_of_row, site_at}
+use Rattle.m5_reference.specs.Opening.{sites_opened}
+use Rattle.m5_reference.specs.Sites.{SessionSites, site_in, site_of_session, site_at}
 use Rattle.m5_reference.specs.declared.running.Running.{Running}
-use Rattle.m5_reference.proofs.Freely.{begin_free}
+use Rattle.m5_reference.proofs.NextMoment.{begin_free}
 
 -- each of the copies is the one that was copied
 copied : {A : Type 0} (n k : ℕ) (x : A) → k < n → slice_get (replicate n x) k ≡ Some x
@@ -39,7 +39,7 @@ in-row P S Any n = absurd (n refl)
 
 in-rows : (P : Program) (S : Scenario) (n s : ℕ) (w : World) → w ≢ Any → 1 ≤ s → s ≤ n → IsAhead P S w (opening_site (opening_threads P w)) (site_at (replicate n (sites_opened P)) s w)
 in-rows P S n zero w r h k = absurd (omega (arith, h))
-in-rows P S n (suc s) w r h k = subst (λ (o : Option SessionSites). IsAhead P S w (opening_site (opening_threads P w)) (site_of_row o w)) (sym (copied n s (sites_opened P) (omega (arith, k)))) (in-row P S w r)
+in-rows P S n (suc s) w r h k = subst (λ (o : Option SessionSites). IsAhead P S w (opening_site (opening_threads P w)) (site_of_session o w)) (sym (copied n s (sites_opened P) (omega (arith, k)))) (in-row P S w r)
 
 main-closed : (P : Program) → IsClosedProgram P → IsClosedSite (opening_site (opening_threads P Home))
 main-closed P h = record {
@@ -57,7 +57,7 @@ row-closed P h Server = idle-closed
 row-closed P h Panel = idle-closed
 row-closed P h Any = tt
 
-of-copies : (P : Program) → IsClosedProgram P → (n k : ℕ) (w : World) → IsClosedLeft (site_of_row (slice_get (replicate n (sites_opened P)) k) w)
+of-copies : (P : Program) → IsClosedProgram P → (n k : ℕ) (w : World) → IsClosedLeft (site_of_session (slice_get (replicate n (sites_opened P)) k) w)
 of-copies P h zero k w = tt
 of-copies P h (suc n) zero w = row-closed P h w
 of-copies P h (suc n) (suc k) w = of-copies P h n k w
@@ -79,9 +79,9 @@ links-closed S = λ s v w.
     each-at (λ (r : PerWorld (List Item)). All IsClosedItem (at r w)) (λ u. each (λ x. raw_items s u x S.raws)) v
     (λ u. each-at (All IsClosedItem) (λ x. raw_items s u x S.raws) w (λ x. All-map IsClosedItem (λ (r : RawItem). raw r.bytes) (raws_for s u x S.raws) (raws-closed (raws_for s u x S.raws))))
 
-pub opens : (P : Program) (S : Scenario) (r : Running) → IsClosedProgram P → r.rows.items ≡ replicate S.sessions (sites_opened P) → board_of r.board ≡ opening_board S → length r.board.desks ≡ S.sessions → r.entries ≡ [] → Opens P S r
+pub opens : (P : Program) (S : Scenario) (r : Running) → IsClosedProgram P → r.sites.items ≡ replicate S.sessions (sites_opened P) → board_of r.board ≡ opening_board S → length r.board.desks ≡ S.sessions → r.entries ≡ [] → Opens P S r
 opens P S r h rows board desks entries =
-    let count : length r.rows.items ≡ S.sessions = ap length rows ∙ length-replicate S.sessions (sites_opened P) in
+    let count : length r.sites.items ≡ S.sessions = ap length rows ∙ length-replicate S.sessions (sites_opened P) in
     record {
       stands = record {
         board = board;

@@ -15,7 +15,7 @@ use Rattle.m5_meaning.specs.Step.{site_next}
 use Rattle.m5_script.specs.Scenario.{Scenario}
 use Rattle.m5_network.specs.Board.{Board, answer_of}
 use Rattle.m5_network.specs.Run.{Network, with_site}
-use Rattle.m5_source_site.specs.Waits.{resumed}
+use Rattle.m5_source_site.specs.Waiting.{resumed}
 use Rattle.m5_source_site.specs.declared.resume.Wait.{Wait}
 use Rattle.m5_board.specs.Boards.{BoardLists, board_of}
 use Rattle.m5_reference.specs.Ahead.{IsAhead, kept}
@@ -23,8 +23,7 @@ use Rattle.m5_network.specs.FirstMoment.{ComesFree, StopsFirst, AsksFree, GoesWr
 use Rattle.m5_reference.specs.Turning.{MakesDeed, IsStuck, IsTurned, IsAskTurned}
 use Rattle.m5_reference.specs.declared.turn.Turned.{Turned}
 use Rattle.m5_reference.specs.declared.turn.Turned.TheVariants as turned
-use Rattle.m5_reference.proofs.Freely.{begin_free}
-use Rattle.m5_reference.proofs.Onward.{plus, follow}
+use Rattle.m5_reference.proofs.NextMoment.{begin_free, plus, follow}
 use Rattle.m5_network.proofs.Asking.{looks}
 use Rattle.m5_reference.proofs.Asking.{same-wait}
 use Rattle.m5_reference.proofs.Silence.{only-look, stays}

@@ -19,7 +19,7 @@ use Rattle.m5_reference.specs.declared.running.Running.{Running}
 pub record Opens (P : Program) (S : Scenario) (r : Running) : Type 0 where
   pub stands : StandsFor P S r (opening P S)
   pub ready : IsReady r
-  pub count : length r.rows.items ≡ S.sessions
+  pub count : length r.sites.items ≡ S.sessions
   pub entries : r.entries ≡ []
 
 -- the whole plain order, at each site's first moments

@@ -1,5 +1,5 @@
 -- What the code's moments say.
-use Rattle.std.specs.Prelude.{◌≡◌, ◌+◌, ◌<◌, ◌^◌}
+use Rattle.std.specs.Prelude.{◌≡◌, ◌+◌, ◌<◌}
 use Rattle.m5_terms.specs.declared.types.World.{World}
 use Rattle.m5_terms.specs.declared.ask.Cause.TheVariants.{Spent, Region}
 use Rattle.m5_terms.specs.Machine.{goes, asks, wrong}
@@ -7,20 +7,18 @@ use Rattle.m5_meaning.specs.Site.{Program, Site}
 use Rattle.m5_meaning.specs.Step.{site_next}
 use Rattle.m5_script.specs.Scenario.{Scenario}
 use Rattle.m5_source_site.specs.ClosedSite.{IsClosedSite, IsClosedNext}
-use Rattle.m5_source_site.specs.Waits.{resumed}
-use Rattle.m5_reference.specs.declared.moment.Limits.{Limits}
+use Rattle.m5_source_site.specs.Waiting.{resumed}
+use Rattle.m5_reference.specs.declared.limits.Limits.{Limits}
 use Rattle.m5_reference.specs.declared.moment.Moment.{Moment}
 use Rattle.m5_reference.specs.declared.moment.Moment.TheVariants as moment
-use Rattle.m5_reference.specs.declared.moment.Look.{Look}
-use Rattle.m5_reference.specs.declared.moment.Look.TheVariants as look
+use Rattle.m5_reference.specs.declared.moment.StepOrMoment.{StepOrMoment}
+use Rattle.m5_reference.specs.declared.moment.StepOrMoment.TheVariants as step_or_moment
 use Rattle.m5_network.specs.FirstMoment.{MayStop, IsFree, StopsFirst, AsksFree, GoesWrong}
 
--- the scenario has these numbers, within which the code counts
+-- the scenario has these numbers
 pub record HasLimits (S : Scenario) (l : Limits) : Type 0 where
   pub steps : S.steps ≡ l.steps
   pub region : S.region ≡ l.region
-  pub few_steps : l.steps < 2 ^ 62
-  pub small_region : l.region < 2 ^ 62
 
 -- what is seen of the state itself
 abbrev pub IsMomentAt : Program → Scenario → World → Site → Moment → Type 0
@@ -28,9 +26,9 @@ IsMomentAt P S w x (moment.Stops cause) = MayStop P S w cause x × (cause ≡ Re
 IsMomentAt P S w x (moment.Asks q y) = IsFree P S w x × (site_next P w x ≡ asks q (resumed P w y.site y.wait))
 IsMomentAt P S w x moment.Wrong = IsFree P S w x × (site_next P w x ≡ wrong)
 
-abbrev pub IsLookAt : Program → Scenario → World → Site → Look → Type 0
-IsLookAt P S w x (look.Goes t) = IsFree P S w x × (site_next P w x ≡ goes t)
-IsLookAt P S w x (look.Comes m) = IsMomentAt P S w x m
+abbrev pub IsStepOrMomentAt : Program → Scenario → World → Site → StepOrMoment → Type 0
+IsStepOrMomentAt P S w x (step_or_moment.Step t) = IsFree P S w x × (site_next P w x ≡ goes t)
+IsStepOrMomentAt P S w x (step_or_moment.Moment m) = IsMomentAt P S w x m
 
 -- the moment to which the site comes by local steps
 abbrev pub IsMoment : Program → Scenario → World → Site → Moment → Type 0
@@ -43,11 +41,11 @@ abbrev pub IsClosedMoment : Program → World → Moment → Type 0
 IsClosedMoment P w (moment.Asks q y) = IsClosedNext (asks q (resumed P w y.site y.wait))
 IsClosedMoment P w _ = Unit {0}
 
-abbrev pub IsClosedLook : Program → World → Look → Type 0
-IsClosedLook P w (look.Goes t) = IsClosedSite t
-IsClosedLook P w (look.Comes m) = IsClosedMoment P w m
+abbrev pub IsClosedStepOrMoment : Program → World → StepOrMoment → Type 0
+IsClosedStepOrMoment P w (step_or_moment.Step t) = IsClosedSite t
+IsClosedStepOrMoment P w (step_or_moment.Moment m) = IsClosedMoment P w m
 
 -- a local step counts one, and is made within the limit alone
-abbrev pub IsCountedLook : Site → Limits → Look → Type 0
-IsCountedLook x l (look.Goes t) = (t.steps ≡ x.steps + 1) × (x.steps < l.steps)
-IsCountedLook x l (look.Comes m) = Unit {0}
+abbrev pub IsCountedStep : Site → Limits → StepOrMoment → Type 0
+IsCountedStep x l (step_or_moment.Step t) = (t.steps ≡ x.steps + 1) × (x.steps < l.steps)
+IsCountedStep x l (step_or_moment.Moment m) = Unit {0}

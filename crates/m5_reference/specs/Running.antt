@@ -13,7 +13,7 @@ use Rattle.m5_board.specs.Boards.{board_of}
 use Rattle.m5_reference.specs.Ahead.{IsAhead}
 use Rattle.m5_reference.specs.ClosedTurn.{IsClosedBoard, IsClosedLeft}
 use Rattle.m5_reference.specs.Reference.{FirstTurn}
-use Rattle.m5_reference.specs.SiteRows.{site_at}
+use Rattle.m5_reference.specs.Sites.{site_at}
 use Rattle.m5_reference.specs.Turning.{IsStuck}
 use Rattle.m5_reference.specs.declared.running.Going.{Going}
 use Rattle.m5_reference.specs.declared.running.Going.TheVariants as going
@@ -22,12 +22,12 @@ use Rattle.m5_reference.specs.declared.running.Running.{Running}
 -- the board is the network's, and each site is the network's or ahead of it
 pub record StandsFor (P : Program) (S : Scenario) (r : Running) (N : Network) : Type 0 where
   pub board : board_of r.board ≡ N.board
-  pub sites : (s : ℕ) (w : World) → IsSite S s w → IsAhead P S w (N.site s w) (site_at r.rows.items s w)
+  pub sites : (s : ℕ) (w : World) → IsSite S s w → IsAhead P S w (N.site s w) (site_at r.sites.items s w)
 
 -- as many desks as sessions, and nothing with free variables
 pub record IsReady (r : Running) : Type 0 where
-  pub desks : length r.board.desks ≡ length r.rows.items
-  pub sites : (s : ℕ) (w : World) → IsClosedLeft (site_at r.rows.items s w)
+  pub desks : length r.board.desks ≡ length r.sites.items
+  pub sites : (s : ℕ) (w : World) → IsClosedLeft (site_at r.sites.items s w)
   pub links : IsClosedBoard (board_of r.board)
 
 -- the name of a site that is held
@@ -38,7 +38,7 @@ pub record IsNamed (count : ℕ) (x : SiteName) : Type 0 where
 
 -- as many sessions as before, ready again
 pub record StaysReady (old new : Running) : Type 0 where
-  pub count : length new.rows.items ≡ length old.rows.items
+  pub count : length new.sites.items ≡ length old.sites.items
   pub ready : IsReady new
 
 -- the deeds and the network after them, for which the code's run stands; the history shows the deeds

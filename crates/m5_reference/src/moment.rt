@@ -1,25 +1,19 @@
 //! The next moment of a site at which a run does something with it.
 
-ghost use Rattle.std.specs.Prelude.{◌≡◌, ◌≢◌, ◌≤◌, ◌<◌, ◌^◌, IfOk};
+ghost use Rattle.std.specs.Prelude.{IfOk};
 ghost use Rattle.m5_script.specs.Scenario.{Scenario};
-ghost use Rattle.m5_source_site.specs.ClosedSite.{IsClosedSite, IsClosedProgram};
-ghost use Rattle.m5_reference.specs.Moments.{HasLimits, IsLookAt, IsMoment, IsClosedLook, IsClosedMoment, IsCountedLook};
+ghost use Rattle.m5_source_site.specs.ClosedSite.{IsClosedSite};
+ghost use Rattle.m5_reference.specs.Moments.{HasLimits, IsStepOrMomentAt, IsMoment, IsClosedStepOrMoment, IsClosedMoment, IsCountedStep};
 
-use m5_source_site::advance::{Progress, advance};
+use crate::limits::Limits;
 use m5_source_site::item::SiteAsk;
+use m5_source_site::measured::MeasuredProgram;
+use m5_source_site::next::{Next, next_step};
 use m5_source_site::resume::{Wait, Waiting};
-use m5_source_site::rules::Rules;
 use m5_source_site::site::Site;
 use m5_terms::ask::{AskOf, Cause};
 use m5_terms::types::World;
 use std::alloc::{AllocError, Global};
-
-/// The numbers for every site: at most so many steps, and a weight below that of its region.
-#[derive(Clone, Copy)]
-pub struct Limits {
-    pub steps: u64,
-    pub region: u64,
-}
 
 /// A stop, an ask with the site that waits for its answer, or that the meaning went wrong.
 #[derive(Drop)]
@@ -31,53 +25,52 @@ pub enum Moment {
 
 /// A local step, or the moment itself.
 #[derive(Drop)]
-enum Look {
-    Goes(Site),
-    Comes(Moment),
+enum StepOrMoment {
+    Step(Site),
+    Moment(Moment),
 }
 
 /// A local step, or what the run does with the site as it is.
-fn see(
+fn step_or_moment(
     alloc: Global,
-    rules: &Rules<'_>,
+    program: &MeasuredProgram<'_>,
     limits: Limits,
     here: World,
     site: Site,
-) -> Result<Look, AllocError>
-    requires steps { limits.steps < 2 ^ 62 }
-    requires region { limits.region < 2 ^ 62 }
-    requires closed { IsClosedSite site }
-    ensures look { (S : Scenario) → HasLimits S limits → IfOk result (IsLookAt rules.now S here site) }
-    ensures closed { IsClosedProgram rules.now → IfOk result (IsClosedLook rules.now here) }
-    ensures counted { IfOk result (IsCountedLook site limits) }
+) -> Result<StepOrMoment, AllocError>
+    requires { IsClosedSite site }
+    ensures moment { (S : Scenario) → HasLimits S limits → IfOk result (IsStepOrMomentAt program.now S here site) }
+    ensures closed { IfOk result (IsClosedStepOrMoment program.now here) }
+    ensures counted { IfOk result (IsCountedStep site limits) }
 {
+    program.closed_holds();
     if site.is_idle() {
-        let wait = Wait::ForNews;
-        return Ok(Look::Comes(Moment::Asks(AskOf::Take, Waiting { site, wait })));
+        let wait = Wait::Take;
+        return Ok(StepOrMoment::Moment(Moment::Asks(AskOf::Take, Waiting { site, wait })));
     }
     if limits.steps <= site.steps() {
-        return Ok(Look::Comes(Moment::Stops(Cause::Spent)));
+        return Ok(StepOrMoment::Moment(Moment::Stops(Cause::Spent)));
     }
     let weight = site.weight();
     if limits.region <= weight {
-        return Ok(Look::Comes(Moment::Stops(Cause::Region)));
+        return Ok(StepOrMoment::Moment(Moment::Stops(Cause::Region)));
     }
-    match advance(alloc, rules, here, site)? {
-        Progress::Goes(next) => {
+    match next_step(alloc, program, here, site)? {
+        Next::Goes(next) => {
             if limits.region <= next.weight() {
-                Ok(Look::Comes(Moment::Stops(Cause::Region)))
+                Ok(StepOrMoment::Moment(Moment::Stops(Cause::Region)))
             } else {
-                Ok(Look::Goes(next))
+                Ok(StepOrMoment::Step(next))
             }
         }
-        Progress::Asks(query, waiting) => {
-            if limits.region <= weight + rules.step_weight(0) {
-                Ok(Look::Comes(Moment::Stops(Cause::Region)))
+        Next::Asks(query, waiting) => {
+            if limits.region <= weight + program.step_weight(0) {
+                Ok(StepOrMoment::Moment(Moment::Stops(Cause::Region)))
             } else {
-                Ok(Look::Comes(Moment::Asks(query, waiting)))
+                Ok(StepOrMoment::Moment(Moment::Asks(query, waiting)))
             }
         }
-        Progress::Wrong => Ok(Look::Comes(Moment::Wrong)),
+        Next::Wrong => Ok(StepOrMoment::Moment(Moment::Wrong)),
     }
 }
 
@@ -85,23 +78,20 @@ fn see(
 /// at before the region, or at its next ask, or where the meaning goes wrong.
 pub fn next_moment(
     alloc: Global,
-    rules: &Rules<'_>,
+    program: &MeasuredProgram<'_>,
     limits: Limits,
     here: World,
     site: Site,
 ) -> Result<Moment, AllocError>
-    requires steps { limits.steps < 2 ^ 62 }
-    requires region { limits.region < 2 ^ 62 }
-    requires closed { IsClosedSite site }
-    requires program { IsClosedProgram rules.now }
-    ensures moment { (S : Scenario) → HasLimits S limits → IfOk result (IsMoment rules.now S here site) }
-    ensures closed { IfOk result (IsClosedMoment rules.now here) }
+    requires { IsClosedSite site }
+    ensures moment { (S : Scenario) → HasLimits S limits → IfOk result (IsMoment program.now S here site) }
+    ensures closed { IfOk result (IsClosedMoment program.now here) }
 {
     let mut site = site;
     'steps: loop {
-        match see(alloc, rules, limits, here, site)? {
-            Look::Goes(next) => site = next,
-            Look::Comes(moment) => return Ok(moment),
+        match step_or_moment(alloc, program, limits, here, site)? {
+            StepOrMoment::Step(next) => site = next,
+            StepOrMoment::Moment(moment) => return Ok(moment),
         }
     }
 }

@@ -1,18 +1,17 @@
 //! Rounds over all sites, until one finds nothing.
 
-ghost use Rattle.std.specs.Prelude.{◌≡◌, ◌<◌, ◌^◌, ◌++◌, length, map, All, IfOk, OnOk};
+ghost use Rattle.std.specs.Prelude.{◌≡◌, ◌++◌, length, map, All, IfOk, OnOk};
 ghost use Rattle.m5_terms.specs.Worlds.{site_worlds};
 ghost use Rattle.m5_script.specs.Scenario.{Scenario};
 ghost use Rattle.m5_network.specs.Plain.{sites_of};
 ghost use Rattle.m5_network.specs.Run.{Network, IsSite};
-ghost use Rattle.m5_source_site.specs.ClosedSite.{IsClosedProgram};
 ghost use Rattle.m5_reference.specs.Moments.{HasLimits};
 ghost use Rattle.m5_reference.specs.Running.{StandsFor, IsReady, IsNamed, StaysReady, RoundsEnd};
 
-use crate::moment::Limits;
+use crate::limits::Limits;
 use crate::running::{Going, Running, take_turns};
 use m5_script::items::SiteName;
-use m5_source_site::rules::Rules;
+use m5_source_site::measured::MeasuredProgram;
 use m5_terms::worlds::worlds_of_sites;
 use std::alloc::{AllocError, Global};
 
@@ -41,22 +40,19 @@ pub fn all_sites(alloc: Global, sessions: u32) -> Result<Vec<SiteName>, AllocErr
 /// history longer, so no memory holds more rounds than are counted here.
 pub fn take_rounds(
     alloc: Global,
-    rules: &Rules<'_>,
+    program: &MeasuredProgram<'_>,
     limits: Limits,
     running: &mut Running,
     names: &[SiteName],
 ) -> Result<Going, AllocError>
-    requires steps { limits.steps < 2 ^ 62 }
-    requires region { limits.region < 2 ^ 62 }
-    requires program { IsClosedProgram rules.now }
     requires ready { IsReady running.old }
-    requires names { All (IsNamed (length running.old.rows.items)) names.now }
-    ensures turned { (S : Scenario) (N : Network) → HasLimits S limits → StandsFor rules.now S running.old N → All (λ (x : SiteName). IsSite S x.session x.world) names.now → IfOk result (RoundsEnd rules.now S N names.now running.old running.new) }
+    requires names { All (IsNamed (length running.old.sites.items)) names.now }
+    ensures turned { (S : Scenario) (N : Network) → HasLimits S limits → StandsFor program.now S running.old N → All (λ (x : SiteName). IsSite S x.session x.world) names.now → IfOk result (RoundsEnd program.now S N names.now running.old running.new) }
     ensures ready { IfOk result (λ g. StaysReady running.old running.new) }
 {
     'rounds: for _round in 0..u64::MAX {
         let before = running.entries.count();
-        match take_turns(alloc, rules, limits, running, names)? {
+        match take_turns(alloc, program, limits, running, names)? {
             Going::On => {}
             Going::Wrong => return Ok(Going::Wrong),
         }

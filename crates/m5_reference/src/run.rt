@@ -5,19 +5,19 @@ ghost use Rattle.m5_terms.specs.declared.ask.Entry.{Entry as EntryOf};
 ghost use Rattle.m5_script.specs.Scenario.{IsScript};
 ghost use Rattle.m5_network.specs.Claim.{stop_count};
 ghost use Rattle.m5_network.specs.Run.{Network};
-ghost use Rattle.m5_source_site.specs.ClosedSite.{IsClosedProgram};
 ghost use Rattle.m5_reference.specs.Budget.{with_lesser_budget};
 ghost use Rattle.m5_reference.specs.Finishing.{Opens, OrderEnds, end_of};
 ghost use Rattle.m5_reference.specs.Moments.{HasLimits};
 ghost use Rattle.m5_reference.specs.Reference.{IsReferenceRun};
 ghost use Rattle.m5_reference.specs.Running.{IsReady, StandsFor};
 
-use crate::moment::Limits;
-use crate::opening::{open_board, open_sites};
+use crate::limits::Limits;
+use crate::opening::open_sites;
 use crate::rounds::{all_sites, take_rounds};
 use crate::running::{Going, Running, take_turns};
+use m5_board::board::Board;
 use m5_script::script::Script;
-use m5_source_site::rules::Rules;
+use m5_source_site::measured::MeasuredProgram;
 use m5_terms::ask::{Act, End, Entries, Entry, History};
 use m5_typing::program::Program;
 use std::alloc::{AllocError, Global};
@@ -37,13 +37,17 @@ fn limits_of(script: &Script) -> Limits
 }
 
 /// The run as it opens.
-fn open(alloc: Global, rules: &Rules<'_>, script: &Script) -> Result<Running, AllocError>
-    requires { IsClosedProgram rules.now }
-    ensures { IfOk result (Opens rules.now (with_lesser_budget script.now)) }
+fn open(
+    alloc: Global,
+    program: &MeasuredProgram<'_>,
+    script: &Script,
+) -> Result<Running, AllocError>
+    ensures { IfOk result (Opens program.now (with_lesser_budget script.now)) }
 {
+    program.closed_holds();
     Ok(Running {
-        rows: open_sites(alloc, rules, script.sessions)?,
-        board: open_board(alloc, script)?,
+        sites: open_sites(alloc, program, script.sessions)?,
+        board: Board::opening(alloc, script)?,
         entries: Entries::make(alloc),
     })
 }
@@ -51,23 +55,22 @@ fn open(alloc: Global, rules: &Rules<'_>, script: &Script) -> Result<Running, Al
 /// The turns that the script names, and then rounds until one finds nothing.
 fn go(
     alloc: Global,
-    rules: &Rules<'_>,
+    program: &MeasuredProgram<'_>,
     limits: Limits,
     running: &mut Running,
     script: &Script,
 ) -> Result<Going, AllocError>
     requires limits { HasLimits (with_lesser_budget script.now) limits }
-    requires program { IsClosedProgram rules.now }
-    requires opens { Opens rules.now (with_lesser_budget script.now) running.old }
+    requires opens { Opens program.now (with_lesser_budget script.now) running.old }
     requires script { IsScript script.now }
-    ensures { (N : Network) → StandsFor rules.now (with_lesser_budget script.now) running.old N → IfOk result (OrderEnds rules.now (with_lesser_budget script.now) N running.old running.new) }
+    ensures { (N : Network) → StandsFor program.now (with_lesser_budget script.now) running.old N → IfOk result (OrderEnds program.now (with_lesser_budget script.now) N running.old running.new) }
 {
-    match take_turns(alloc, rules, limits, running, script.order.as_slice())? {
+    match take_turns(alloc, program, limits, running, script.order.as_slice())? {
         Going::On => {}
         Going::Wrong => return Ok(Going::Wrong),
     }
     let names = all_sites(alloc, script.sessions)?;
-    take_rounds(alloc, rules, limits, running, names.as_slice())
+    take_rounds(alloc, program, limits, running, names.as_slice())
 }
 
 /// How many entries are stops.
@@ -104,10 +107,10 @@ pub fn reference_run(
     ensures { IfOk result (IsReferenceRun program.now (with_lesser_budget script.now)) }
 {
     let _functions = program.functions();
-    let rules = Rules::of(program);
+    let measured = MeasuredProgram::of(program);
     let limits = limits_of(script);
-    let mut running = open(alloc, &rules, script)?;
-    match go(alloc, &rules, limits, &mut running, script)? {
+    let mut running = open(alloc, &measured, script)?;
+    match go(alloc, &measured, limits, &mut running, script)? {
         Going::On => {}
         Going::Wrong => unreachable!(),
     }

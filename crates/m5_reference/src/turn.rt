@@ -1,25 +1,26 @@
 //! One turn of a site.
 
-ghost use Rattle.std.specs.Prelude.{◌≡◌, ◌<◌, ◌^◌, ◌↔◌, length, IfOk, OnOk, IsTrue, Some};
+ghost use Rattle.std.specs.Prelude.{◌≡◌, ◌↔◌, length, IfOk, OnOk, IsTrue, Some};
 ghost use Rattle.m5_terms.specs.Worlds.{IsSiteWorld};
 ghost use Rattle.m5_terms.specs.declared.ask.AnswerOf.TheVariants as answer;
 ghost use Rattle.m5_script.specs.Scenario.{Scenario};
 ghost use Rattle.m5_network.specs.Board.{answer_of};
 ghost use Rattle.m5_network.specs.Run.{Network};
-ghost use Rattle.m5_source_site.specs.ClosedSite.{HasRoom, IsClosedSite, IsClosedProgram};
-ghost use Rattle.m5_source_site.specs.Waits.{resumed};
+ghost use Rattle.m5_source_site.specs.ClosedSite.{HasRoom, IsClosedSite};
+ghost use Rattle.m5_source_site.specs.Waiting.{resumed};
 ghost use Rattle.m5_board.specs.Boards.{board_of, IsSession};
 ghost use Rattle.m5_reference.specs.Moments.{HasLimits};
 ghost use Rattle.m5_reference.specs.Ahead.{IsAhead, kept};
 ghost use Rattle.m5_reference.specs.Turning.{IsTurned, IsAskTurned};
 ghost use Rattle.m5_reference.specs.ClosedTurn.{IsClosedBoard, IsClosedTurned};
 
-use crate::moment::{Limits, Moment, next_moment};
+use crate::limits::Limits;
+use crate::moment::{Moment, next_moment};
 use m5_board::board::{Answered, Board};
 use m5_script::items::SiteName;
 use m5_source_site::item::{LinkItem, SiteAnswer, SiteAsk};
+use m5_source_site::measured::MeasuredProgram;
 use m5_source_site::resume::Waiting;
-use m5_source_site::rules::Rules;
 use m5_source_site::site::Site;
 use m5_terms::ask::{Act, AnswerOf};
 use m5_terms::types::World;
@@ -63,21 +64,21 @@ fn keep(site: Site) -> Option<Site>
 /// What the site does with the answer, if it is one to its ask.
 fn resume(
     alloc: Global,
-    rules: &Rules<'_>,
+    program: &MeasuredProgram<'_>,
     here: World,
     waiting: Waiting,
     reply: SiteAnswer,
 ) -> Result<Option<Site>, AllocError>
-    ensures { IfOk result (λ o. o ≡ resumed rules.now here waiting.site waiting.wait reply) }
+    ensures { IfOk result (λ o. o ≡ resumed program.now here waiting.site waiting.wait reply) }
 {
     check_room(&waiting.site)?;
-    waiting.resume(alloc, rules, here, reply)
+    waiting.resume(alloc, program, here, reply)
 }
 
 /// The turn of a site that asks.
 fn answer_turn(
     alloc: Global,
-    rules: &Rules<'_>,
+    program: &MeasuredProgram<'_>,
     board: &mut Board<LinkItem>,
     name: SiteName,
     query: SiteAsk,
@@ -86,14 +87,14 @@ fn answer_turn(
     requires session { IsSession name.session board.old.desks }
     requires world { IsSiteWorld name.world }
     ensures board { let x = answer_of (board_of board.old) name.session name.world query in IfOk result (λ t. board_of board.new ≡ x.board) }
-    ensures turned { let x = answer_of (board_of board.old) name.session name.world query in IfOk result (IsAskTurned waiting.site query (resumed rules.now name.world waiting.site waiting.wait) x) }
+    ensures turned { let x = answer_of (board_of board.old) name.session name.world query in IfOk result (IsAskTurned waiting.site query (resumed program.now name.world waiting.site waiting.wait) x) }
     ensures count { length board.new.desks ≡ length board.old.desks }
 {
     let Answered { reply, act } = board.answer(alloc, name.session, name.world, query)?;
     if is_nothing(&reply) {
         return Ok(Turned::Rests(waiting.site));
     }
-    match resume(alloc, rules, name.world, waiting, reply)? {
+    match resume(alloc, program, name.world, waiting, reply)? {
         Some(site) => Ok(Turned::Acts(keep(site), act)),
         None => Ok(Turned::Wrong),
     }
@@ -103,26 +104,23 @@ fn answer_turn(
 /// steps before which no stop is licensed.
 pub fn turn(
     alloc: Global,
-    rules: &Rules<'_>,
+    program: &MeasuredProgram<'_>,
     limits: Limits,
     board: &mut Board<LinkItem>,
     name: SiteName,
     site: Site,
 ) -> Result<Turned, AllocError>
-    requires steps { limits.steps < 2 ^ 62 }
-    requires region { limits.region < 2 ^ 62 }
     requires closed { IsClosedSite site }
-    requires program { IsClosedProgram rules.now }
     requires session { IsSession name.session board.old.desks }
     requires world { IsSiteWorld name.world }
-    ensures turned { (S : Scenario) (N : Network) → HasLimits S limits → board_of board.old ≡ N.board → IsAhead rules.now S name.world (N.site name.session name.world) (Some site) → IfOk result (IsTurned rules.now S N name.session name.world board.new) }
+    ensures turned { (S : Scenario) (N : Network) → HasLimits S limits → board_of board.old ≡ N.board → IsAhead program.now S name.world (N.site name.session name.world) (Some site) → IfOk result (IsTurned program.now S N name.session name.world board.new) }
     ensures closed { IsClosedBoard (board_of board.old) → IfOk result IsClosedTurned }
     ensures closed_board { IsClosedBoard (board_of board.old) → IfOk result (λ t. IsClosedBoard (board_of board.new)) }
     ensures count { length board.new.desks ≡ length board.old.desks }
 {
-    match next_moment(alloc, rules, limits, name.world, site)? {
+    match next_moment(alloc, program, limits, name.world, site)? {
         Moment::Stops(cause) => Ok(Turned::Acts(None, Act::Stop(cause))),
-        Moment::Asks(query, waiting) => answer_turn(alloc, rules, board, name, query, waiting),
+        Moment::Asks(query, waiting) => answer_turn(alloc, program, board, name, query, waiting),
         Moment::Wrong => Ok(Turned::Wrong),
     }
 }

@@ -27,9 +27,9 @@ use Rattle.m5_meaning.specs.Step.{SiteNext, thread_of, stepped, is_full, stopped
 use Rattle.m5_source_site.specs.ClosedSite.{IsClosedFrame, IsClosedFocus, IsClosedThread, IsClosedSite, IsClosedProgram, IsClosedQuery, IsClosedReply, IsClosedNext, StaysClosed}
 use Rattle.std.specs.Prelude.{Result, Ok, Err, IfOk}
 use Rattle.std.specs.declared.alloc.AllocError.{AllocError}
-use Rattle.m5_source_site.specs.declared.advance.Progress.{Progress}
-use Rattle.m5_source_site.specs.declared.advance.Progress.TheVariants as progress
-use Rattle.m5_source_site.specs.Waits.{Stands, IsClosedProgress}
+use Rattle.m5_source_site.specs.declared.next.Next.{Next}
+use Rattle.m5_source_site.specs.declared.next.Next.TheVariants as next
+use Rattle.m5_source_site.specs.Waiting.{Stands, KeepsClosed}
 use Rattle.m5_source_site.proofs.ClosedTerm.{both, left, right, everywhere}
 use Rattle.m5_source_site.proofs.ClosedReduction.{IsClosedReduced, reduced-closed}
 
@@ -220,12 +220,12 @@ front-closed P p u s (t ∷ ts) c h =
 pub stays_closed : StaysClosed
 stays_closed P u s p c = front-closed P p u s s.threads c c.threads
 
-ok-closed : (P : Program) (u : World) (a : Progress) (n : SiteNext) → Stands P u a n → IsClosedNext n → IsClosedProgress P u a
-ok-closed P u (progress.Goes s) n e h = subst IsClosedNext e h
-ok-closed P u (progress.Asks q x) n e h = subst IsClosedNext e h
-ok-closed P u progress.Wrong n e h = tt
+ok-closed : (P : Program) (u : World) (a : Next) (n : SiteNext) → Stands P u a n → IsClosedNext n → KeepsClosed P u a
+ok-closed P u (next.Goes s) n e h = subst IsClosedNext e h
+ok-closed P u (next.Asks q x) n e h = subst IsClosedNext e h
+ok-closed P u next.Wrong n e h = tt
 
 -- the code's answer is closed where what comes next is
-pub progress-closed : (P : Program) (u : World) (r : Result Progress AllocError) (n : SiteNext) → IfOk r (λ a. Stands P u a n) → IsClosedNext n → IfOk r (IsClosedProgress P u)
-progress-closed P u (Ok a) n e h = ok-closed P u a n e h
-progress-closed P u (Err x) n e h = tt
+pub keeps-closed : (P : Program) (u : World) (r : Result Next AllocError) (n : SiteNext) → IfOk r (λ a. Stands P u a n) → IsClosedNext n → IfOk r (KeepsClosed P u)
+keeps-closed P u (Ok a) n e h = ok-closed P u a n e h
+keeps-closed P u (Err x) n e h = tt

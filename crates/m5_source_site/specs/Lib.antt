@@ -3,4 +3,4 @@ pub mod Items
 pub mod ClosedSite
 pub mod Reductions
 pub mod Atoms
-pub mod Waits
+pub mod Waiting

@@ -1,19 +1,19 @@
 //! One site of the meaning as code: its local steps, its asks, and what each answer makes of it.
 #![tactic(auto)]
 
-pub mod advance;
-mod atom;
-mod extern_call;
-mod give;
+mod evaluate;
 pub mod item;
 pub mod laws;
+pub mod measured;
+pub mod next;
 mod operate;
 mod outcome;
 mod parts;
+mod primitives;
 mod reduce;
 mod reduced;
 pub mod resume;
-pub mod rules;
+mod returning;
 pub mod site;
 mod size;
 pub mod thread;

@@ -10,10 +10,10 @@ ghost use Rattle.m5_meaning.specs.Reduction as reduction;
 ghost use Rattle.m5_meaning.specs.Reduction.{gives, goes_on, called, called_function, first_of, second_of, at_cell, loads, stores, got, unheld, unsham, reduced_unary, reduced_binary, chosen, case_of_sum, case_of_list, reduced_ternary};
 ghost use Rattle.m5_source_site.specs.Reductions.{reduction_of, wrapped_by};
 
-use crate::extern_call::call_extern;
+use crate::measured::MeasuredProgram;
 use crate::operate::{divide, operate, write_number};
+use crate::primitives::call_extern;
 use crate::reduced::Reduced;
-use crate::rules::Rules;
 use m5_terms::form::{BinaryForm, TernaryForm, UnaryForm};
 use m5_terms::node::{Node, NodeBox};
 use m5_terms::opened::{LeafView, Opened, UnaryView};
@@ -48,14 +48,14 @@ fn bind_both(
 
 fn call_declared(
     alloc: Global,
-    rules: &Rules<'_>,
+    program: &MeasuredProgram<'_>,
     number: u32,
     argument: &Node,
 ) -> Result<Reduced, AllocError>
     requires { IsClosed argument.now }
-    ensures { IfOk result (λ r. reduction_of r ≡ called_function (slice_get rules.now.functions number) argument.now) }
+    ensures { IfOk result (λ r. reduction_of r ≡ called_function (slice_get program.now.functions number) argument.now) }
 {
-    match rules.function(number) {
+    match program.function(number) {
         Some(function) => bind(alloc, function.parameter, argument, &function.body),
         None => Ok(Reduced::Wrong),
     }
@@ -64,16 +64,16 @@ fn call_declared(
 /// A call puts the argument into the body.
 fn call(
     alloc: Global,
-    rules: &Rules<'_>,
+    program: &MeasuredProgram<'_>,
     function: &Node,
     argument: &Node,
 ) -> Result<Reduced, AllocError>
     requires function { IsClosed function.now }
     requires argument { IsClosed argument.now }
-    ensures { IfOk result (λ r. reduction_of r ≡ called rules.now function.now argument.now) }
+    ensures { IfOk result (λ r. reduction_of r ≡ called program.now function.now argument.now) }
 {
     match function.open() {
-        Opened::Leaf(LeafView::Glob(number)) => call_declared(alloc, rules, number, argument),
+        Opened::Leaf(LeafView::Glob(number)) => call_declared(alloc, program, number, argument),
         Opened::Leaf(LeafView::Extern(primitive)) => call_extern(alloc, primitive, argument),
         Opened::Unary(UnaryView::Fn(variable, _), body) => bind(alloc, variable, argument, body),
         Opened::Unary(UnaryView::Rec(name, variable, _, _), body) => {
@@ -227,7 +227,7 @@ fn rebuilt(
 /// A form of two parts, at a site's world.
 pub(crate) fn reduce_binary(
     alloc: Global,
-    rules: &Rules<'_>,
+    program: &MeasuredProgram<'_>,
     world: World,
     form: BinaryForm,
     first: &Node,
@@ -235,10 +235,10 @@ pub(crate) fn reduce_binary(
 ) -> Result<Reduced, AllocError>
     requires first { IsClosed first.now }
     requires second { form ≡ binary_form.Call → IsClosed second.now }
-    ensures { IfOk result (λ r. reduction_of r ≡ reduced_binary rules.now world form first.now second.now) }
+    ensures { IfOk result (λ r. reduction_of r ≡ reduced_binary program.now world form first.now second.now) }
 {
     match form {
-        BinaryForm::Call => call(alloc, rules, first, second),
+        BinaryForm::Call => call(alloc, program, first, second),
         BinaryForm::Pair | BinaryForm::Cons => rebuilt(alloc, form, first, second),
         BinaryForm::Store => store(alloc, world, first, second),
         BinaryForm::Binary(op) => operate(alloc, op, first, second),

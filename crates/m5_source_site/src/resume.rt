@@ -9,11 +9,11 @@ ghost use Rattle.m5_terms.specs.declared.types.World.{World};
 ghost use Rattle.m5_meaning.specs.Reduction.{unit_value, text_value, unit_or};
 ghost use Rattle.m5_meaning.specs.Step.{after_done, after_get_text, after_read, after_take, stopped_by, begun, handler_thread, handler_threads};
 ghost use Rattle.m5_source_site.specs.ClosedSite.{HasRoom};
-ghost use Rattle.m5_source_site.specs.Waits.{resumed};
+ghost use Rattle.m5_source_site.specs.Waiting.{resumed};
 
 use crate::item::{LinkItem, SiteAnswer, SiteItem};
+use crate::measured::MeasuredProgram;
 use crate::outcome::{return_text, step_to};
-use crate::rules::Rules;
 use crate::site::Site;
 use crate::thread::{FrameQueue, SiteThread};
 use m5_terms::ask::AnswerOf;
@@ -29,11 +29,11 @@ use std::alloc::{AllocError, Global};
 /// was read there, begin threads, or stop.
 #[derive(Drop)]
 pub enum Wait {
-    Told,
-    ForText(FrameQueue, World),
-    ForRead(FrameQueue, World),
-    ForNews,
-    ToStop,
+    Done,
+    Text(FrameQueue, World),
+    Read(FrameQueue, World),
+    Take,
+    Stop,
 }
 
 /// A site that waits for the answer to its ask.
@@ -44,13 +44,13 @@ pub struct Waiting {
 }
 
 /// After a primitive that only tells, or a send.
-fn go_on(rules: &Rules<'_>, mut site: Site, reply: SiteAnswer) -> Option<Site>
+fn go_on(program: &MeasuredProgram<'_>, mut site: Site, reply: SiteAnswer) -> Option<Site>
     requires { HasRoom site }
-    ensures { result ≡ after_done rules.now site site.threads reply }
+    ensures { result ≡ after_done program.now site site.threads reply }
 {
     match reply {
         AnswerOf::Done => {
-            site.count_step(rules, 0);
+            site.count_step(program, 0);
             Some(site)
         }
         _ => None,
@@ -58,17 +58,17 @@ fn go_on(rules: &Rules<'_>, mut site: Site, reply: SiteAnswer) -> Option<Site>
 }
 
 fn take_text(
-    rules: &Rules<'_>,
+    program: &MeasuredProgram<'_>,
     site: Site,
     frames: FrameQueue,
     at: World,
     reply: SiteAnswer,
 ) -> Result<Option<Site>, AllocError>
     requires { HasRoom site }
-    ensures { IfOk result (λ o. o ≡ after_get_text rules.now site site.threads frames at reply) }
+    ensures { IfOk result (λ o. o ≡ after_get_text program.now site site.threads frames at reply) }
 {
     match reply {
-        AnswerOf::Found(text) => Ok(Some(return_text(rules, site, frames, at, text)?)),
+        AnswerOf::Found(text) => Ok(Some(return_text(program, site, frames, at, text)?)),
         _ => Ok(None),
     }
 }
@@ -97,25 +97,25 @@ fn missing_value(alloc: Global) -> Result<Node, AllocError>
 
 fn take_read(
     alloc: Global,
-    rules: &Rules<'_>,
+    program: &MeasuredProgram<'_>,
     site: Site,
     frames: FrameQueue,
     at: World,
     reply: SiteAnswer,
 ) -> Result<Option<Site>, AllocError>
     requires { HasRoom site }
-    ensures { IfOk result (λ o. o ≡ after_read rules.now site site.threads frames at reply) }
+    ensures { IfOk result (λ o. o ≡ after_read program.now site site.threads frames at reply) }
 {
     match reply {
         AnswerOf::Found(text) => {
             let made = text.bytes().len() as u64;
             let value = found_value(alloc, text)?;
             let focus = Focus::Returned(at, value);
-            Ok(Some(step_to(rules, site, made, frames, focus)?))
+            Ok(Some(step_to(program, site, made, frames, focus)?))
         }
         AnswerOf::Missing => {
             let focus = Focus::Returned(at, missing_value(alloc)?);
-            Ok(Some(step_to(rules, site, 0, frames, focus)?))
+            Ok(Some(step_to(program, site, 0, frames, focus)?))
         }
         _ => Ok(None),
     }
@@ -236,20 +236,20 @@ impl Waiting {
     pub fn resume(
         self,
         alloc: Global,
-        rules: &Rules<'_>,
+        program: &MeasuredProgram<'_>,
         here: World,
         reply: SiteAnswer,
     ) -> Result<Option<Site>, AllocError>
         requires { HasRoom self.site }
-        ensures { IfOk result (λ o. o ≡ resumed rules.now here self.site self.wait reply) }
+        ensures { IfOk result (λ o. o ≡ resumed program.now here self.site self.wait reply) }
     {
         let Waiting { site, wait } = self;
         match wait {
-            Wait::Told => Ok(go_on(rules, site, reply)),
-            Wait::ForText(frames, at) => take_text(rules, site, frames, at, reply),
-            Wait::ForRead(frames, at) => take_read(alloc, rules, site, frames, at, reply),
-            Wait::ForNews => take_news(alloc, here, site, reply),
-            Wait::ToStop => Ok(stop(site, reply)),
+            Wait::Done => Ok(go_on(program, site, reply)),
+            Wait::Text(frames, at) => take_text(program, site, frames, at, reply),
+            Wait::Read(frames, at) => take_read(alloc, program, site, frames, at, reply),
+            Wait::Take => take_news(alloc, here, site, reply),
+            Wait::Stop => Ok(stop(site, reply)),
         }
     }
 }

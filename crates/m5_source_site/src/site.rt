@@ -4,9 +4,9 @@ ghost use Rattle.std.specs.Prelude.{◌≡◌, ◌+◌, ◌-◌, ◌<◌, ◌^�
 ghost use Rattle.m5_meaning.specs.Site.{Thread};
 ghost use Rattle.m5_meaning.specs.Step.{stepped, is_full, begun};
 ghost use Rattle.m5_source_site.specs.ClosedSite.{HasRoom};
-ghost use Rattle.m5_source_site.specs.Waits.{with_front};
+ghost use Rattle.m5_source_site.specs.Waiting.{with_front};
 
-use crate::rules::Rules;
+use crate::measured::MeasuredProgram;
 use crate::thread::SiteThread;
 use m5_terms::node::Node;
 use m5_terms::queue::Queue;
@@ -132,12 +132,12 @@ impl Site {
     }
 
     /// Counts one step, which makes so many bytes of text.
-    pub(crate) fn count_step(&mut self, rules: &Rules<'_>, made: u64)
+    pub(crate) fn count_step(&mut self, program: &MeasuredProgram<'_>, made: u64)
         requires room { HasRoom self.old }
         requires made { made < 2 ^ 63 }
-        ensures { self.new ≡ stepped rules.now made self.old self.old.threads }
+        ensures { self.new ≡ stepped program.now made self.old self.old.threads }
     {
-        let weight = rules.step_weight(made);
+        let weight = program.step_weight(made);
         self.step_count += 1;
         self.weight_so_far += weight;
     }

@@ -4,14 +4,14 @@ ghost use Rattle.std.specs.Prelude.{◌≡◌, IfOk, IfSome, Some};
 ghost use Rattle.m5_terms.specs.declared.ask.AnswerOf.TheVariants.{Done};
 ghost use Rattle.m5_terms.specs.declared.types.World.TheVariants.{Home};
 ghost use Rattle.m5_meaning.specs.Site.{Site as SiteOf};
-ghost use Rattle.m5_source_site.specs.ClosedSite.{IsClosedProgram, IsClosedSite};
-ghost use Rattle.m5_source_site.specs.Waits.{resumed};
+ghost use Rattle.m5_source_site.specs.ClosedSite.{IsClosedSite};
+ghost use Rattle.m5_source_site.specs.Waiting.{resumed};
 
 use m5_front::program::read_program;
-use m5_source_site::advance::{Progress, advance};
 use m5_source_site::item::SiteAsk;
+use m5_source_site::measured::MeasuredProgram;
+use m5_source_site::next::{Next, next_step};
 use m5_source_site::resume::Waiting;
-use m5_source_site::rules::Rules;
 use m5_source_site::site::Site;
 use m5_source_site::thread::SiteThread;
 use m5_terms::ask::{AnswerOf, AskOf, Cause};
@@ -59,21 +59,28 @@ fn kind_of(query: SiteAsk) -> Kind {
 }
 
 /// The site after the board has done what it asked; none where its numbers are large.
-fn answered(alloc: Global, rules: &Rules<'_>, waiting: Waiting) -> Result<Option<Site>, AllocError>
-    requires { (t : SiteOf) → resumed rules.now Home waiting.site waiting.wait Done ≡ Some t → IsClosedSite t }
+fn answered(
+    alloc: Global,
+    program: &MeasuredProgram<'_>,
+    waiting: Waiting,
+) -> Result<Option<Site>, AllocError>
+    requires { (t : SiteOf) → resumed program.now Home waiting.site waiting.wait Done ≡ Some t → IsClosedSite t }
     ensures { IfOk result (λ o. IfSome o IsClosedSite) }
 {
     if 1_000_000 <= waiting.site.steps() || 1_000_000_000 <= waiting.site.weight() {
         return Ok(None);
     }
-    waiting.resume(alloc, rules, World::Home, AnswerOf::Done)
+    waiting.resume(alloc, program, World::Home, AnswerOf::Done)
 }
 
 /// How many handlers a site of home registers, and its steps where it asks to stop for a full table; none where it comes
 /// to another end.
-fn filled(alloc: Global, rules: &Rules<'_>, opening: Site) -> Result<Option<(u32, u64)>, AllocError>
-    requires program { IsClosedProgram rules.now }
-    requires site { IsClosedSite opening }
+fn filled(
+    alloc: Global,
+    program: &MeasuredProgram<'_>,
+    opening: Site,
+) -> Result<Option<(u32, u64)>, AllocError>
+    requires { IsClosedSite opening }
 {
     let mut site = opening;
     let mut registered: u32 = 0;
@@ -81,12 +88,12 @@ fn filled(alloc: Global, rules: &Rules<'_>, opening: Site) -> Result<Option<(u32
         if 1_000_000 <= site.steps() || 1_000_000_000 <= site.weight() {
             return Ok(None);
         }
-        match advance(alloc, rules, World::Home, site)? {
-            Progress::Goes(next) => site = next,
-            Progress::Asks(query, waiting) => match kind_of(query) {
+        match next_step(alloc, program, World::Home, site)? {
+            Next::Goes(next) => site = next,
+            Next::Asks(query, waiting) => match kind_of(query) {
                 Kind::Registers => {
                     registered = registered.saturating_add(1);
-                    match answered(alloc, rules, waiting)? {
+                    match answered(alloc, program, waiting)? {
                         Some(next) => site = next,
                         None => return Ok(None),
                     }
@@ -94,18 +101,18 @@ fn filled(alloc: Global, rules: &Rules<'_>, opening: Site) -> Result<Option<(u32
                 Kind::Fills => return Ok(Some((registered, waiting.site.steps()))),
                 Kind::Differs => return Ok(None),
             },
-            Progress::Wrong => return Ok(None),
+            Next::Wrong => return Ok(None),
         }
     }
     Ok(None)
 }
 
 /// The site of home as a program opens it.
-fn opened(alloc: Global, rules: &Rules<'_>) -> Result<Site, AllocError>
-    requires { IsClosedProgram rules.now }
+fn opened(alloc: Global, program: &MeasuredProgram<'_>) -> Result<Site, AllocError>
     ensures { IfOk result IsClosedSite }
 {
-    let focus = Focus::Eval(World::Home, rules.main().copy(alloc)?);
+    program.closed_holds();
+    let focus = Focus::Eval(World::Home, program.main().copy(alloc)?);
     let mut threads = Queue::make(alloc);
     threads.push_back(SiteThread::new(Queue::make(alloc), focus))?;
     Ok(Site::opening(alloc, threads))
@@ -121,9 +128,9 @@ fn end_in_a_stop(rt: HostRuntime) -> Result<(), Fail> {
         let Ok(accepted) = read_program(alloc, text) else {
             return Err("refused".into());
         };
-        let rules = Rules::of(&accepted.program);
-        let site = opened(alloc, &rules)?;
-        assert_eq!(rt; filled(alloc, &rules, site)?, Some((registered, steps)));
+        let program = MeasuredProgram::of(&accepted.program);
+        let site = opened(alloc, &program)?;
+        assert_eq!(rt; filled(alloc, &program, site)?, Some((registered, steps)));
     }
     Ok(())
 }

@@ -5,7 +5,7 @@ use Rattle.m5_reference.proofs.TurnLists.{no-rounds, next-round, last-round, str
 use Rattle.m5_reference.proofs.rounds.take_rounds.Goals as goal
 
 pub rounds-init : goal.rounds-init
-rounds-init c = (record { count = refl; ready = c.requires.ready }, λ S N l h a. no-rounds c.args.rules.now S N c.args.names.now c.args.running.now h)
+rounds-init c = (record { count = refl; ready = c.requires.ready }, λ S N l h a. no-rounds c.args.program.now S N c.args.names.now c.args.running.now h)
 
 -- as many sessions are held in each round
 pub take_turns-requires-clause-names : goal.take_turns-requires-clause-names
@@ -14,14 +14,14 @@ take_turns-requires-clause-names c = subst (λ (n : ℕ). All (IsNamed n) c.args
 pub returns-in-Wrong-clause-turned : goal.returns-in-Wrong-clause-turned
 returns-in-Wrong-clause-turned c = λ S N l h a.
     let before = c.rounds.invariant.1 S N l h a in
-    strands-rounds c.args.rules.now S N c.args.names.now c.args.running.now c.rounds.running a before (rw c.in-Wrong.is at (c.in_ok-take_turns.ensures.turned S before.after l before.made.stands a))
+    strands-rounds c.args.program.now S N c.args.names.now c.args.running.now c.rounds.running a before (rw c.in-Wrong.is at (c.in_ok-take_turns.ensures.turned S before.after l before.made.stands a))
 
 pub returns-then-count-before-clause-turned : goal.returns-then-count-before-clause-turned
 returns-then-count-before-clause-turned c = λ S N l h a.
     let before = c.rounds.invariant.1 S N l h a in
     let round = rw c.in-On.is at (c.in_ok-take_turns.ensures.turned S before.after l before.made.stands a) in
-    last-round c.args.rules.now S N c.args.names.now c.args.running.now c.rounds.running c.take_turns.new.running before round
-    (silent-round c.args.rules.now S c.rounds.running c.take_turns.new.running (joined round.deeds) round.after round.made (sym c.count.ensures ∙ (c.if-count-before.true ∙ c.count-before.ensures)))
+    last-round c.args.program.now S N c.args.names.now c.args.running.now c.rounds.running c.take_turns.new.running before round
+    (silent-round c.args.program.now S c.rounds.running c.take_turns.new.running (joined round.deeds) round.after round.made (sym c.count.ensures ∙ (c.if-count-before.true ∙ c.count-before.ensures)))
 
 pub rounds-preserved : goal.rounds-preserved
 rounds-preserved c = (
@@ -29,6 +29,6 @@ rounds-preserved c = (
   λ S N l h a.
       let before = c.rounds.invariant.1 S N l h a in
       let round = rw c.in-On.is at (c.in_ok-take_turns.ensures.turned S before.after l before.made.stands a) in
-      next-round c.args.rules.now S N c.args.names.now c.args.running.now c.rounds.running c.take_turns.new.running before round
-      (busy-round c.args.rules.now S c.rounds.running c.take_turns.new.running (joined round.deeds) round.after round.made (λ e. c.if-count-before.false (c.count.ensures ∙ (e ∙ sym c.count-before.ensures)))),
+      next-round c.args.program.now S N c.args.names.now c.args.running.now c.rounds.running c.take_turns.new.running before round
+      (busy-round c.args.program.now S c.rounds.running c.take_turns.new.running (joined round.deeds) round.after round.made (λ e. c.if-count-before.false (c.count.ensures ∙ (e ∙ sym c.count-before.ensures)))),
 )

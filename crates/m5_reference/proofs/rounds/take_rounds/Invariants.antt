@@ -10,4 +10,4 @@ use Rattle.m5_reference.proofs.rounds.take_rounds.Given as goal
 abbrev pub invariant-rounds : goal.invariant-rounds
 invariant-rounds l =
     StaysReady l.initial.running l.running
-    × ((S : Scenario) (N : Network) → HasLimits S l.limits → StandsFor l.rules S l.initial.running N → All (λ (x : SiteName). IsSite S x.session x.world) l.names → TakesRounds l.rules S N l.names l.initial.running l.running)
+    × ((S : Scenario) (N : Network) → HasLimits S l.limits → StandsFor l.program S l.initial.running N → All (λ (x : SiteName). IsSite S x.session x.world) l.names → TakesRounds l.program S N l.names l.initial.running l.running)

@@ -35,9 +35,9 @@ returns c = λ N h.
     let names : c.as_slice-2.result.now ≡ sites_of S.sessions = c.as_slice-2.ensures.value ∙ (c.in_ok-names.ensures ∙ ap (λ (T : Scenario). sites_of T.sessions) c.script.view_is) in
     let script : IsScript S = lesser-budget-is-script c.args.script.now c.requires.script in
     let named : All (IsSiteNamed S.sessions) c.as_slice.result.now = subst (All (IsSiteNamed S.sessions)) (sym order) (order-sites S script) in
-    let Taken : List SiteName → Type 0 = λ xs. TakesTurns c.args.rules.now S N xs c.args.running.now c.take_turns.new.running in
+    let Taken : List SiteName → Type 0 = λ xs. TakesTurns c.args.program.now S N xs c.args.running.now c.take_turns.new.running in
     let turns : Taken S.order = subst Taken order (rw c.in-On.is at (c.in_ok-take_turns.ensures.turned S N c.requires.limits h named)) in
     let all : All (IsSiteNamed S.sessions) c.as_slice-2.result.now = subst (All (IsSiteNamed S.sessions)) (sym names) (round-sites S) in
-    let Rounded : List SiteName → Type 0 = λ xs. IfOk c.take_rounds.result (RoundsEnd c.args.rules.now S turns.after xs c.take_turns.new.running c.take_rounds.new.running) in
-    ends c.take_rounds.result c.args.rules.now S N c.args.running.now c.take_turns.new.running c.take_rounds.new.running script turns
+    let Rounded : List SiteName → Type 0 = λ xs. IfOk c.take_rounds.result (RoundsEnd c.args.program.now S turns.after xs c.take_turns.new.running c.take_rounds.new.running) in
+    ends c.take_rounds.result c.args.program.now S N c.args.running.now c.take_turns.new.running c.take_rounds.new.running script turns
     (subst Rounded names (c.take_rounds.ensures.turned S turns.after c.requires.limits turns.made.stands all))

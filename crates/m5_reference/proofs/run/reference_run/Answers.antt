@@ -13,16 +13,16 @@ use Rattle.m5_reference.proofs.run.reference_run.Goals as goal
 pub returns : goal.returns
 returns c =
     let S : Scenario = with_lesser_budget c.args.script.now in
-    let rules : c.of-rules.result ≡ c.args.program.now = c.of-rules.ensures.value in
-    let opens : Opens c.args.program.now S c.in_ok-running.running = subst (λ (P : Program). Opens P S c.in_ok-running.running) rules c.in_ok-running.ensures in
-    let ran : OrderEnds c.of-rules.result S (opening c.of-rules.result S) c.in_ok-running.running c.go.new.running going.On = rw c.in-On.is at (c.in_ok-go.ensures (opening c.of-rules.result S) c.in_ok-running.ensures.stands) in
-    let finishes : Finishes c.args.program.now S (opening c.args.program.now S) c.in_ok-running.running c.go.new.running = subst (λ (P : Program). Finishes P S (opening P S) c.in_ok-running.running c.go.new.running) rules ran in
+    let same : c.of-measured.result ≡ c.args.program.now = c.of-measured.ensures in
+    let opens : Opens c.args.program.now S c.in_ok-running.running = subst (λ (P : Program). Opens P S c.in_ok-running.running) same c.in_ok-running.ensures in
+    let ran : OrderEnds c.of-measured.result S (opening c.of-measured.result S) c.in_ok-running.running c.go.new.running going.On = rw c.in-On.is at (c.in_ok-go.ensures (opening c.of-measured.result S) c.in_ok-running.ensures.stands) in
+    let finishes : Finishes c.args.program.now S (opening c.args.program.now S) c.in_ok-running.running c.go.new.running = subst (λ (P : Program). Finishes P S (opening P S) c.in_ok-running.running c.go.new.running) same ran in
     is-reference-run c.args.program.now S c.in_ok-running.running c.go.new.running c.in_ok-end.end c.functions-functions.ensures.typed (lesser-budget-is-script c.args.script.now c.limits_of-limits.ensures.script) opens.entries finishes c.in_ok-end.ensures
 
 pub unreachable-requires : goal.unreachable-requires
 unreachable-requires c =
     let S : Scenario = with_lesser_budget c.args.script.now in
-    let rules : c.of-rules.result ≡ c.args.program.now = c.of-rules.ensures.value in
-    let ran : OrderEnds c.of-rules.result S (opening c.of-rules.result S) c.in_ok-running.running c.go.new.running going.Wrong = rw c.in-Wrong.is at (c.in_ok-go.ensures (opening c.of-rules.result S) c.in_ok-running.ensures.stands) in
-    let strands : Strands c.args.program.now S (opening c.args.program.now S) = subst (λ (P : Program). Strands P S (opening P S)) rules ran in
+    let same : c.of-measured.result ≡ c.args.program.now = c.of-measured.ensures in
+    let ran : OrderEnds c.of-measured.result S (opening c.of-measured.result S) c.in_ok-running.running c.go.new.running going.Wrong = rw c.in-Wrong.is at (c.in_ok-go.ensures (opening c.of-measured.result S) c.in_ok-running.ensures.stands) in
+    let strands : Strands c.args.program.now S (opening c.args.program.now S) = subst (λ (P : Program). Strands P S (opening P S)) same ran in
     never-strands c.args.program.now S c.functions-functions.ensures.typed (lesser-budget-is-script c.args.script.now c.limits_of-limits.ensures.script) strands

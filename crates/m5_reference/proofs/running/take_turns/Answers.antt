@@ -13,19 +13,19 @@ abbrev past : SiteName
 past = record { session = 0; world = Home }
 
 pub turns-init : goal.turns-init
-turns-init c = (record { count = refl; ready = c.requires.ready }, λ S N l h a. no-turns c.args.rules.now S N c.args.running.now h)
+turns-init c = (record { count = refl; ready = c.requires.ready }, λ S N l h a. no-turns c.args.program.now S N c.args.running.now h)
 
 pub take_turn-requires-clause-ready : goal.take_turn-requires-clause-ready
 take_turn-requires-clause-ready c = c.turns.invariant.0.ready
 
 pub take_turn-requires-clause-name : goal.take_turn-requires-clause-name
-take_turn-requires-clause-name c = rw c.turns.invariant.0.count (All-get_or (IsNamed (length c.args.running.now.rows.items)) c.args.names.now c.turns.name-index past c.turns-test.true c.requires.names)
+take_turn-requires-clause-name c = rw c.turns.invariant.0.count (All-get_or (IsNamed (length c.args.running.now.sites.items)) c.args.names.now c.turns.name-index past c.turns-test.true c.requires.names)
 
 pub returns-in-Wrong-clause-turned : goal.returns-in-Wrong-clause-turned
 returns-in-Wrong-clause-turned c = λ S N l h a.
     let before = c.turns.invariant.1 S N l h a in
     let site = All-get_or (λ (x : SiteName). IsSite S x.session x.world) c.args.names.now c.turns.name-index past c.turns-test.true a in
-    stuck-there c.args.rules.now S N c.args.names.now c.turns.name-index (get_or c.args.names.now c.turns.name-index past) c.args.running.now c.turns.running a site before
+    stuck-there c.args.program.now S N c.args.names.now c.turns.name-index (get_or c.args.names.now c.turns.name-index past) c.args.running.now c.turns.running a site before
     (rw c.in-Wrong.is at (c.in_ok-take_turn.ensures.turned S before.after l before.made.stands site))
 
 pub returns-in-Wrong-clause-ready : goal.returns-in-Wrong-clause-ready
@@ -37,12 +37,12 @@ turns-preserved c = (
   λ S N l h a.
       let before = c.turns.invariant.1 S N l h a in
       let site = All-get_or (λ (x : SiteName). IsSite S x.session x.world) c.args.names.now c.turns.name-index past c.turns-test.true a in
-      next-turn c.args.rules.now S N c.args.names.now c.turns.name-index past c.args.running.now c.turns.running c.take_turn.new.running c.turns-test.true before
+      next-turn c.args.program.now S N c.args.names.now c.turns.name-index past c.args.running.now c.turns.running c.take_turn.new.running c.turns-test.true before
       (rw c.in-On.is at (c.in_ok-take_turn.ensures.turned S before.after l before.made.stands site)),
 )
 
 pub returns-clause-turned : goal.returns-clause-turned
-returns-clause-turned c = λ S N l h a. subst (λ (xs : List SiteName). TakesTurns c.args.rules.now S N xs c.args.running.now c.turns.running) (take_all c.turns.name-index c.args.names.now c.turns-test.false) (c.turns.invariant.1 S N l h a)
+returns-clause-turned c = λ S N l h a. subst (λ (xs : List SiteName). TakesTurns c.args.program.now S N xs c.args.running.now c.turns.running) (take_all c.turns.name-index c.args.names.now c.turns-test.false) (c.turns.invariant.1 S N l h a)
 
 pub returns-clause-ready : goal.returns-clause-ready
 returns-clause-ready c = c.turns.invariant.0

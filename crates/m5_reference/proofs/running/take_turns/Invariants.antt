@@ -10,4 +10,4 @@ use Rattle.m5_reference.proofs.running.take_turns.Given as goal
 abbrev pub invariant-turns : goal.invariant-turns
 invariant-turns l =
     StaysReady l.initial.running l.running
-    × ((S : Scenario) (N : Network) → HasLimits S l.limits → StandsFor l.rules S l.initial.running N → All (λ (x : SiteName). IsSite S x.session x.world) l.names → TakesTurns l.rules S N (take l.name-index l.names) l.initial.running l.running)
+    × ((S : Scenario) (N : Network) → HasLimits S l.limits → StandsFor l.program S l.initial.running N → All (λ (x : SiteName). IsSite S x.session x.world) l.names → TakesTurns l.program S N (take l.name-index l.names) l.initial.running l.running)

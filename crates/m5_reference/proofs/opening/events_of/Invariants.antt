@@ -1,6 +1,0 @@
-use Rattle.std.proofs.Common.{◌≡◌, take}
-use Rattle.m5_reference.specs.OpeningLists.{session_events}
-use Rattle.m5_reference.proofs.opening.events_of.Given as goal
-
-abbrev pub invariant-loop-event : goal.invariant-loop-event
-invariant-loop-event l = l.left ≡ session_events (take l.event-index l.events) l.session
