@@ -7,3 +7,5 @@ pub mod board;
 pub mod desk;
 mod desks;
 pub mod opening;
+mod take;
+mod tell;

@@ -1,6 +1,6 @@
 use Rattle.std.proofs.Common.{sym}
 use Rattle.m5_board.proofs.Telling.{still-there}
-use Rattle.m5_board.proofs.answer.write_told.Goals as goal
+use Rattle.m5_board.proofs.tell.write_told.Goals as goal
 
 pub unpost-requires : goal.unpost-requires
 unpost-requires g c = still-there c.args.watchers.now c.args.desks.now.items c.post.new.desks.items c.post.ensures.count c.requires

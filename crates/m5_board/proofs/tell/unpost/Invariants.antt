@@ -2,7 +2,7 @@ use Rattle.std.proofs.Common.{◌≡◌, ◌≤◌, ℕ, List, length, take}
 use Rattle.m5_network.specs.Board.{Desk}
 use Rattle.m5_board.specs.Boards.{desk_at}
 use Rattle.m5_board.specs.Answers.{told}
-use Rattle.m5_board.proofs.answer.unpost.Given as goal
+use Rattle.m5_board.proofs.tell.unpost.Given as goal
 
 -- what is left to take off was told by the first watchers
 abbrev pub invariant-loop-left : goal.invariant-loop-left

@@ -1,7 +1,7 @@
 use Rattle.std.proofs.Common.{◌≡◌, length, take}
 use Rattle.m5_board.specs.Boards.{desk_at}
 use Rattle.m5_board.specs.Answers.{told}
-use Rattle.m5_board.proofs.answer.post.Given as goal
+use Rattle.m5_board.proofs.tell.post.Given as goal
 
 -- the first watchers are told
 abbrev pub invariant-loop-index : goal.invariant-loop-index

@@ -1,7 +1,7 @@
 use Rattle.std.proofs.Common.{sym, ◌∙◌, ap}
 use Rattle.m5_board.specs.Boards.{desk_at}
 use Rattle.m5_board.proofs.Telling.{told-next, told-all}
-use Rattle.m5_board.proofs.answer.post.Goals as goal
+use Rattle.m5_board.proofs.tell.post.Goals as goal
 
 pub loop-index-preserved : goal.loop-index-preserved
 loop-index-preserved g c = (

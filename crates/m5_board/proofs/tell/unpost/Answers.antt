@@ -2,7 +2,7 @@ use Rattle.std.proofs.Common.{sym, ◌∙◌, arith}
 use Rattle.m5_board.specs.Boards.{desk_at}
 use Rattle.m5_board.proofs.DeskChanges.{same-desks}
 use Rattle.m5_board.proofs.Telling.{untold-next, told-none}
-use Rattle.m5_board.proofs.answer.unpost.Goals as goal
+use Rattle.m5_board.proofs.tell.unpost.Goals as goal
 
 pub loop-left-preserved : goal.loop-left-preserved
 loop-left-preserved g c = (
