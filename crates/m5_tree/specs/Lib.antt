@@ -17,3 +17,4 @@ pub mod Making
 pub mod Reading
 pub mod Program
 pub mod Level
+pub mod code

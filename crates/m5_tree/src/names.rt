@@ -1,17 +1,23 @@
 //! The names of a program, each with a number.
 
-ghost use Rattle.std.specs.Prelude.{◌≡◌, [], length, slice_get, IfOk, OnOk};
+ghost use Rattle.std.specs.Prelude.{◌≡◌, [], length, map, slice_get, IfOk, OnOk};
 ghost use Rattle.std.specs.Option.{option_map};
+ghost use Rattle.std.specs.BTreeMap.{get};
+ghost use Rattle.std.specs.Global.{Vec as VecOf};
 ghost use Rattle.m5_tree.specs.Names.{noted, number_of};
+ghost use Rattle.m5_tree.specs.code.Named.{Numbers};
 
-use indexmap::IndexSet;
 use std::alloc::{AllocError, Global};
+use std::collections::BTreeMap;
 use std::marker::Model;
 
 /// Different names in the order of their first occurrence; a name's number is its place, from 0.
+/// An ordered map finds a name: no choice of names makes it slow, as names with equal hashes would.
 #[derive(Drop)]
 pub struct Names {
-    set: IndexSet<Vec<u8>>,
+    names: Vec<Vec<u8>>,
+    numbers: BTreeMap<Vec<u8>, usize>,
+    ghost numbered: { Numbers numbers names.items },
 }
 
 impl Model for Names {
@@ -19,7 +25,7 @@ impl Model for Names {
 
     ghost Value = { List (List ℕ) };
 
-    ghost view = { λ n. map (λ v. v.items) n.set.keys };
+    ghost view = { λ n. map (λ v. v.items) n.names.items };
 }
 
 impl Names {
@@ -28,7 +34,8 @@ impl Names {
         ensures { result ≡ [] }
     {
         Names {
-            set: IndexSet::new(alloc),
+            names: Vec::new(alloc),
+            numbers: BTreeMap::new(alloc),
         }
     }
 
@@ -37,22 +44,34 @@ impl Names {
         ensures number { IfOk result (λ n. n ≡ number_of self.old name.now) }
         ensures noted { OnOk result (self.new ≡ noted self.old name.now) }
     {
-        let (number, _) = self.set.insert_full(Vec::from_slice(alloc, name)?)?;
-        Ok(number)
+        let key = Vec::from_slice(alloc, name)?;
+        match self.numbers.get(&key) {
+            Some(number) => return Ok(*number),
+            None => {}
+        }
+        let number = self.count();
+        self.names.push(Vec::from_slice(alloc, name)?)?;
+        match self.numbers.insert(key, number) {
+            Ok(_) => Ok(number),
+            Err(error) => {
+                self.names.pop();
+                Err(error.into())
+            }
+        }
     }
 
     /// How many names there are.
     pub fn count(&self) -> usize
         ensures { result ≡ length self.now }
     {
-        self.set.len()
+        self.names.len()
     }
 
     /// The name of a number.
     pub fn get(&self, number: usize) -> Option<&[u8]>
         ensures { option_map (λ x. x.now) result ≡ slice_get self.now number }
     {
-        match self.set.get_index(number) {
+        match self.names.get(number) {
             Some(name) => Some(name.as_slice()),
             None => None,
         }

@@ -1,0 +1,2 @@
+-- What the code keeps of the names.
+pub mod Named
