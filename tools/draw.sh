@@ -145,12 +145,13 @@ file=$1 LC_ALL=C exec awk -v most_rows="$rows" -v most_lanes="$lanes" '
   }
 
   # A message goes along the row of its send into the gap beside the lane that takes it, down there, and along the row of its
-  # take. A row has one mark alone, and no mark stands in a gap; each message that is on its way has a track of its own there.
+  # take; one that is never taken ends in the gap. A row has one mark alone, and no mark stands in a gap; each message that is
+  # on its way has a track of its own there.
   function place_messages(  i, g, t) {
-    for (i = 1; i <= lines && i <= most_rows; i++) if (i in row && i in to_row) {
+    for (i = 1; i <= lines && i <= most_rows; i++) if (i in row && verb_at[i] == "send") {
       g = gap_of(i)
       for (t = 1; busy[g, t] >= row[i]; t++) continue
-      busy[g, t] = row[to_row[i]]
+      busy[g, t] = i in to_row ? row[to_row[i]] : row[i]
       track[i] = t
       if (t > tracks[g]) tracks[g] = t
     }
@@ -330,9 +331,9 @@ file=$1 LC_ALL=C exec awk -v most_rows="$rows" -v most_lanes="$lanes" '
     x = x_at(i); y = y_of(i)
     to = x_of(lane[session_at[i], other_at[i]])
     side = to > x ? 1 : -1
-    if (!to_row[i]) { waiting(x, y, to - side * 10); return }
-    end = y_of(to_row[i])
     turn = track_x(i)
+    if (!to_row[i]) { waiting(x, y, turn); return }
+    end = y_of(to_row[i])
     bend = 6
     print "<path class=\"arrow\" d=\"M" x " " y "H" (turn - side * bend) "q" (side * bend) " 0 " (side * bend) " " bend "V" (end - bend) "q0 " bend " " (side * bend) " " bend "H" (to - side * 7) "\"/>"
     print "<circle class=\"tail\" cx=\"" x "\" cy=\"" y "\" r=\"3\"/>"
