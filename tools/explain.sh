@@ -13,7 +13,7 @@ case ${1-} in
     cat <<'END'
 tools/explain.sh FILE WORD ..
 
-Runs the built `ml5` on FILE, as `ml5 WORD .. < FILE` does, with the same output and the same status, and then says more:
+Runs the job WORD .. of the built `ml5` on FILE, with the output and the status of `ml5`, and then says more under a line
 
   refused KIND LINE:COLUMN      the line of the program, a caret below the column, the kind's section in docs/refusals.md
   refused script LINE KIND      the line of the script, a caret below its first word, the kind's section in docs/formats.md
