@@ -171,6 +171,32 @@ END
 )
 writes 0 explain.sh "$top/examples/chat.ml5" ref < examples/chat.trace
 
+# What no run of today writes, or not here: by a program that answers as it is told, in a tree of its own.
+mkdir -p "$work/tree/tools" "$work/tree/crates/ml5/out" && cp tools/explain.sh "$work/tree/tools/" || exit 1
+told() {
+  top=$work/tree
+  printf '#!/bin/sh\ncat > /dev/null\nprintf "%s"\nexit %s\n' "$2" "$1" > "$work/tree/crates/ml5/out/ml5"
+  chmod +x "$work/tree/crates/ml5/out/ml5"
+  writes "$1" explain.sh p.ml5 ref
+  top=$PWD
+}
+told 10 '1 panel stop table\n2 home say \"stop\"\n2 home stop table\nstopped 2\n' <<'END'
+1 panel stop table
+2 home say "stop"
+2 home stop table
+stopped 2
+1 panel stopped by table
+2 home stopped by table
+table: it had 4,096 threads, cells or handlers: docs/language.md, section The meaning
+END
+told 2 '' < /dev/null
+told 7 'refused memory\n' <<< 'refused memory'
+told 4 'refused syntax 1:10\n' < <(printf 'refused syntax 1:10\nmain = ()\n         ^\ndocs/refusals.md, section syntax\n')
+rm "$work/tree/crates/ml5/out/ml5"
+top=$work/tree
+refuses "explain: $work/tree/tools/../crates/ml5/out/ml5 is not built: run rt ci first" explain.sh p.ml5 ref
+top=$PWD
+
 # The sections that tools/explain.sh names.
 for section in 'language.md:## Runs' 'language.md:## The meaning' 'formats.md:## The script' 'refusals.md:## WrongWorld'; do
   count "$(grep -qxF "${section#*:}" "docs/${section%%:*}" && echo yes)" "docs/${section%%:*} has no section '${section#*:}'"
