@@ -1,5 +1,5 @@
 #!/usr/bin/env bash
-# Compares the blocks of docs/ that scripts make with what the scripts print, and fails where they differ.
+# Compares the blocks of documents that scripts make with what the scripts print, and fails where they differ.
 # With --write it writes the blocks. A block stands between the lines `<!-- made by tools/NAME -->` and `<!-- end -->`.
 set -u
 cd "$(dirname "$0")/.." || exit 1
@@ -38,5 +38,6 @@ check() {
 
 check docs/claims.md believed.sh
 check docs/architecture.md index.sh
+check examples/README.md examples-index.sh
 [ "$failed" -eq 0 ] && echo "check-docs: the blocks are as the scripts print them"
 exit "$failed"
