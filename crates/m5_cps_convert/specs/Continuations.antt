@@ -52,12 +52,12 @@ abbrev pub goal_code : Part → Scope → ℕ → Code
 goal_code e Γ n = e Γ (suc (suc n)) (Tail (suc n))
 
 -- what ends a thread
-abbrev pub ended : Continuation
-ended = Then (λ x n. ends done)
+abbrev pub thread_end : Continuation
+thread_end = Then (λ x n. ends done)
 
 -- a block that begins a thread
 abbrev pub start_code : Part → Scope → ℕ → Code
-start_code e Γ n = e Γ (suc (suc n)) ended
+start_code e Γ n = e Γ (suc (suc n)) thread_end
 
 -- an arm of a choice of the type T, whose continuation is in slot k; where too many arms are open it gets a block of its own,
 -- so that no block's tests nest deep

@@ -1,0 +1,81 @@
+-- What stands at the head of a value and of the one that it is read back to.
+use Rattle.std.proofs.Common.{◌≡◌, ℕ, inl, inr, List, refl, sym, ap, subst}
+use Rattle.m5_terms.specs.Machine.{goes, asks, wrong}
+use Rattle.m5_terms.specs.Related.{AskReads, AnswerReads}
+use Rattle.m5_terms.specs.TypeExpression.{TypeExpression}
+use Rattle.m5_terms.specs.TypeExpression as type
+use Rattle.m5_terms.specs.Expression.{Expression, leaf, unary, binary, ternary}
+use Rattle.m5_terms.specs.Worlds.{IsSiteWorld}
+use Rattle.m5_terms.specs.Substitution.{substituted}
+use Rattle.m5_terms.specs.declared.ask.AskOf.{AskOf}
+use Rattle.m5_terms.specs.declared.ask.AskOf.TheVariants as query
+use Rattle.m5_terms.specs.declared.ask.AnswerOf.{AnswerOf}
+use Rattle.m5_terms.specs.declared.ask.AnswerOf.TheVariants as answer
+use Rattle.m5_terms.specs.declared.types.World.{World}
+use Rattle.m5_terms.specs.declared.types.World.TheVariants.{Any}
+use Rattle.m5_terms.specs.declared.types.Primitive.{Primitive}
+use Rattle.m5_terms.specs.declared.types.Primitive.TheVariants as primitive
+use Rattle.m5_terms.specs.declared.thread.Frame.{Frame}
+use Rattle.m5_terms.specs.declared.thread.Frame.TheVariants as frame
+use Rattle.m5_terms.specs.declared.thread.Focus.{Focus}
+use Rattle.m5_terms.specs.declared.thread.Focus.TheVariants.{Eval, Returned}
+use Rattle.m5_terms.specs.declared.form.LeafForm.{LeafForm}
+use Rattle.m5_terms.specs.declared.form.LeafForm.TheVariants as leaf_form
+use Rattle.m5_terms.specs.declared.form.UnaryForm.{UnaryForm}
+use Rattle.m5_terms.specs.declared.form.UnaryForm.TheVariants as unary_form
+use Rattle.m5_terms.specs.declared.form.BinaryForm.{BinaryForm}
+use Rattle.m5_terms.specs.declared.form.BinaryForm.TheVariants as binary_form
+use Rattle.m5_terms.specs.declared.form.TernaryForm.{TernaryForm}
+use Rattle.m5_terms.specs.declared.form.TernaryForm.TheVariants as ternary_form
+use Rattle.m5_typing.specs.declared.functions.Function.{Function}
+use Rattle.m5_typing.specs.Context.{Bound}
+use Rattle.m5_meaning.specs.Site.{Program}
+use Rattle.m5_meaning.specs.Site as meaning
+use Rattle.m5_meaning.specs.Step.{step_weight, thread_of, outcome}
+use Rattle.m5_meaning.specs.Step as meaning_step
+use Rattle.m5_meaning.specs.Reduction as reduction
+use Rattle.m5_cps.specs.Entries.{SlotType, of, takes, Mode, only, world_of, Entry, by_value, by_call}
+use Rattle.m5_cps.specs.Blocks.{Code, straight, closure, test}
+use Rattle.m5_cps.specs.Blocks as block
+use Rattle.m5_cps.specs.Values.{Wrap, Join, atom, wrap, join, closed, enter, put}
+use Rattle.m5_cps.specs.Values as value
+use Rattle.m5_cps.specs.Units.{text_units, leaf_units, closure_units}
+use Rattle.m5_terms.specs.Size.{text_size}
+use Rattle.m5_cps.specs.Deeds.{Ran, ends, taking, taking_some}
+use Rattle.m5_cps.specs.Running.{Closure, over, Value, Thread, Item, Site, run, captured}
+use Rattle.m5_cps_convert.specs.Scopes.{Scope, bind, in_block, in_arm, in_sham, fn_scope, rec_scope}
+use Rattle.m5_cps_convert.specs.Continuations.{Tail, Then, apply, reify, variable_code, body_code, goal_code, start_code}
+use Rattle.m5_cps_convert.specs.Convert.{cps}
+use Rattle.m5_cps_convert.specs.Closing.{Values, hide, value_or, close}
+use Rattle.m5_cps_convert.specs.Proper.{Proper, StandsAt}
+use Rattle.m5_cps_convert.specs.Statics.{Static, STop, STail, SBack, SFirst, SSecond, SArgument, kont, Works, IsSlotted, first_rest}
+use Rattle.m5_cps_convert.specs.Slots.{SVal, SKont, SGoal, SStart, Has, FitsAt, Fits, Frames}
+use Rattle.m5_cps_convert.specs.Narrow.{Narrow}
+use Rattle.m5_cps_convert.specs.Reading.{setting, wrapped, joined, IsAtom, Reads}
+use Rattle.m5_cps_convert.specs.Threads.{IsEntered, ReadsThread, ReadsThreads, ReadsValues, ReadsItem, ReadsState}
+
+-- the two heads, with what is known of the parts
+pub data Head (P : Program) : Value → Expression → Type 0 where
+  atoms : (f : LeafForm) → IsAtom f → Head P (atom f) (leaf f)
+  lefts : (T : TypeExpression) (a : Value) (x : Expression) → Reads P a (SVal x) → Head P (wrap (value.left T) a) (unary (unary_form.Inl T) x)
+  rights : (T : TypeExpression) (a : Value) (x : Expression) → Reads P a (SVal x) → Head P (wrap (value.right T) a) (unary (unary_form.Inr T) x)
+  helds : (w : World) (a : Value) (x : Expression) → Reads P a (SVal x) → Head P (wrap (value.held w) a) (unary (unary_form.Held w) x)
+  shams : (a : Value) (x : Expression) → Reads P a (SVal x) → Head P (wrap value.sham a) (unary unary_form.Sham x)
+  pairs : (a b : Value) (x y : Expression) → Reads P a (SVal x) → Reads P b (SVal y) → Head P (join value.pair a b) (binary binary_form.Pair x y)
+  conses : (a b : Value) (x y : Expression) → Reads P a (SVal x) → Reads P b (SVal y) → Head P (join value.cons a b) (binary binary_form.Cons x y)
+  fns : (m : Mode) (A B : TypeExpression) (n : ℕ) (c : Code) (ρ : ℕ → Value) (x : ℕ) (T : TypeExpression) (e : Expression) → Reads P (closed (over (by_call m A B) n c) ρ) (SVal (unary (unary_form.Fn x T) e)) →
+      Head P (closed (over (by_call m A B) n c) ρ) (unary (unary_form.Fn x T) e)
+  recs : (m : Mode) (A B : TypeExpression) (n : ℕ) (c : Code) (ρ : ℕ → Value) (f x : ℕ) (T R : TypeExpression) (e : Expression) → Reads P (closed (over (by_call m A B) n c) ρ) (SVal (unary (unary_form.Rec f x T R) e)) →
+      Head P (closed (over (by_call m A B) n c) ρ) (unary (unary_form.Rec f x T R) e)
+
+pub head_of : (P : Program) (c : Value) (v : Expression) → Reads P c (SVal v) → Head P c v
+head_of P (atom f) v r = subst (Head P (atom f)) (sym r.0) (atoms f r.1)
+head_of P (wrap (value.left T) a) v r = subst (Head P (wrap (value.left T) a)) (sym r.1) (lefts T a r.0 r.2)
+head_of P (wrap (value.right T) a) v r = subst (Head P (wrap (value.right T) a)) (sym r.1) (rights T a r.0 r.2)
+head_of P (wrap (value.held w) a) v r = subst (Head P (wrap (value.held w) a)) (sym r.1) (helds w a r.0 r.2)
+head_of P (wrap value.sham a) v r = subst (Head P (wrap value.sham a)) (sym r.1) (shams a r.0 r.2)
+head_of P (join value.pair a b) v r = subst (Head P (join value.pair a b)) (sym r.2) (pairs a b r.0 r.1 r.3 r.4)
+head_of P (join value.cons a b) v r = subst (Head P (join value.cons a b)) (sym r.2) (conses a b r.0 r.1 r.3 r.4)
+head_of P (closed (over (by_value m T) n c) ρ) v r = absurd r
+head_of P (closed (over (by_call m A B) n c) ρ) v (inl r) = subst (Head P (closed (over (by_call m A B) n c) ρ)) (sym r.is) (fns m A B n c ρ r.x r.parameter _ (subst (λ y. Reads P (closed (over (by_call m A B) n c) ρ) (SVal y)) r.is (inl r)))
+head_of P (closed (over (by_call m A B) n c) ρ) v (inr r) = subst (Head P (closed (over (by_call m A B) n c) ρ)) (sym r.is) (recs m A B n c ρ r.f r.x r.parameter r.result _ (subst (λ y. Reads P (closed (over (by_call m A B) n c) ρ) (SVal y)) r.is (inr r)))

@@ -1,0 +1,6 @@
+pub mod Substitutions
+pub mod Slots
+pub mod Meets
+pub mod Weights
+pub mod Straight
+pub mod Heads
