@@ -43,8 +43,13 @@ pub data Code : Type 0 where
   test : Test → ℕ → Code → Code → Code
   ends : Ending → Code
 
+-- a block over no slots, with how it is entered
+pub record Block : Type 0 where
+  pub entry : Entry
+  pub code : Code
+
 -- the blocks of the declared functions, in their order, each with its closure, argument and continuation in slots 0, 1 and 2,
 -- and main's, with its closure and unit in slots 0 and 1
 pub record Blocks : Type 0 where
-  pub functions : List Code
+  pub functions : List Block
   pub main : Code

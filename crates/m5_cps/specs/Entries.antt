@@ -1,7 +1,8 @@
 -- The types of what blocks have in slots, and how a block is entered.
-use Rattle.m5_terms.specs.TypeExpression.{TypeExpression, function}
+use Rattle.std.specs.Prelude.{ℕ, suc}
+use Rattle.m5_terms.specs.TypeExpression.{TypeExpression, unit, function}
 use Rattle.m5_terms.specs.declared.types.World.{World}
-use Rattle.m5_terms.specs.declared.types.World.TheVariants.{Any}
+use Rattle.m5_terms.specs.declared.types.World.TheVariants.{Home, Any}
 
 -- a value of the source's type, or a continuation that is entered with such a thing
 pub data SlotType : Type 0 where
@@ -32,3 +33,12 @@ entry_mode (by_call m A B) = m
 abbrev pub entry_type : Entry → SlotType
 entry_type (by_value m T) = takes T
 entry_type (by_call m A B) = of (function A B)
+
+-- how many slots are filled where the block begins, of so many before it
+abbrev pub entry_filled : Entry → ℕ → ℕ
+entry_filled (by_value m T) n = suc (suc n)
+entry_filled (by_call m A B) n = suc (suc (suc n))
+
+-- main's block is entered with unit
+abbrev pub main_entry : Entry
+main_entry = by_value (only Home) (of unit)

@@ -6,3 +6,8 @@ pub mod Deeds
 pub mod Asks
 pub mod Running
 pub mod Machine
+pub mod Slots
+pub mod Fits
+pub mod TypeOf
+pub mod Limits
+pub mod Program

@@ -7,8 +7,7 @@ use Rattle.m5_terms.specs.declared.ask.AskOf.{AskOf}
 use Rattle.m5_terms.specs.declared.ask.AnswerOf.{AnswerOf}
 use Rattle.m5_terms.specs.declared.types.World.{World}
 use Rattle.m5_terms.specs.declared.types.World.TheVariants.{Home}
-use Rattle.m5_terms.specs.TypeExpression.{unit}
-use Rattle.m5_cps.specs.Entries.{of, only, by_value}
+use Rattle.m5_cps.specs.Entries.{main_entry}
 use Rattle.m5_cps.specs.Blocks.{Blocks}
 use Rattle.m5_cps.specs.Values.{closed, enter, unit_value}
 use Rattle.m5_cps.specs.Values as value
@@ -43,5 +42,5 @@ opening_site ths = record { threads = ths; cells = []; handlers = []; entered = 
 
 -- each home begins main's block, and no other site has a thread
 abbrev pub opening_threads : Blocks → World → List Thread
-opening_threads B Home = enter (closed (over (by_value (only Home) (of unit)) 0 B.main) no_values) unit_value ∷ []
+opening_threads B Home = enter (closed (over main_entry 0 B.main) no_values) unit_value ∷ []
 opening_threads B _ = []

@@ -6,7 +6,7 @@ use Rattle.m5_terms.specs.declared.ask.AskOf.TheVariants as query
 use Rattle.m5_terms.specs.declared.types.World.{World}
 use Rattle.m5_terms.specs.declared.form.LeafForm.TheVariants as leaf_form
 use Rattle.m5_cps.specs.Entries.{of, everywhere, Entry, by_value, by_call}
-use Rattle.m5_cps.specs.Blocks.{Straight, constant, one, two, unheld, unsham, spawn, Ending, go, call, ask, send, done, Code, straight, closure, test, Blocks}
+use Rattle.m5_cps.specs.Blocks.{Straight, constant, one, two, unheld, unsham, spawn, Ending, go, call, ask, send, done, Code, straight, closure, test, Block, Blocks}
 use Rattle.m5_cps.specs.Blocks as block
 use Rattle.m5_cps.specs.Values as value
 use Rattle.m5_cps.specs.Values.{atom, wrap, join, closed, enter, SiteNext, unit_value, put, put_all, filled_by}
@@ -96,9 +96,9 @@ abbrev pub entered_by : Value → Value → Option Entered
 entered_by (closed (over (by_value m T) n c) ρ) x = Some (entered (closed (over (by_value m T) n c) ρ) x n ρ c)
 entered_by _ x = None
 
-abbrev pub declared_block : ℕ → Value → Value → Option Code → Option Entered
+abbrev pub declared_block : ℕ → Value → Value → Option Block → Option Entered
 declared_block f x k None = None
-declared_block f x k (Some c) = Some (called (atom (leaf_form.Glob f)) x k 0 no_values c)
+declared_block f x k (Some b) = Some (called (atom (leaf_form.Glob f)) x k 0 no_values b.code)
 
 -- a primitive as a function has a block that asks
 abbrev pub called_by : Blocks → Value → Value → Value → Option Entered
