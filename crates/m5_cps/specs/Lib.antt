@@ -1,0 +1,13 @@
+pub mod Entries
+pub mod Blocks
+pub mod Values
+pub mod Units
+pub mod Deeds
+pub mod Asks
+pub mod Running
+pub mod Machine
+pub mod Slots
+pub mod Fits
+pub mod TypeOf
+pub mod Limits
+pub mod Program
