@@ -4,3 +4,5 @@ pub mod Meets
 pub mod Weights
 pub mod Straight
 pub mod Heads
+pub mod Parts
+pub mod Calls

@@ -73,12 +73,12 @@ module _ (P : Program) (u : World) (site : IsSiteWorld u) where
   Goes s t = meaning_step.site_next P u s ≡ goes t
 
   -- an object is made before the step that pays for it
-  pub takes : (b d m : ℕ) (c : ℕ) (t : Site) (s : meaning.Site) (fs : List Frame) (f : Focus) (go_on : Site → (Ran Closure)) → Tied P u b d t s → Weighs P (meaning_step.site_next P u (src s fs f)) (src s fs f) m → d + c ≤ 4 * step_weight P m → ((t1 : Site) → Tied P u b (d + c) t1 s → Meets P u (go_on t1) (src s fs f)) → Meets P u (taking c t go_on) (src s fs f)
-  takes b d m c t s fs f go_on h wg le k = (record { steps = 0; at = src s fs f; comes = refl; point = record { made = m; weighs = wg; units = omega (arith, h.units, le); threads = ap suc (threads_long P u t.threads s.threads h.threads); cells = values_long P t.cells s.cells h.cells; handlers = values_long P t.handlers s.handlers h.handlers } }, k (record t { units = t.units + c }) (take_more c h))
+  pub object_made : (b d m : ℕ) (c : ℕ) (t : Site) (s : meaning.Site) (fs : List Frame) (f : Focus) (go_on : Site → (Ran Closure)) → Tied P u b d t s → Weighs P (meaning_step.site_next P u (src s fs f)) (src s fs f) m → d + c ≤ 4 * step_weight P m → ((t1 : Site) → Tied P u b (d + c) t1 s → Meets P u (go_on t1) (src s fs f)) → Meets P u (taking c t go_on) (src s fs f)
+  object_made b d m c t s fs f go_on h wg le k = (record { steps = 0; at = src s fs f; comes = refl; point = record { made = m; weighs = wg; units = omega (arith, h.units, le); threads = ap suc (threads_long P u t.threads s.threads h.threads); cells = values_long P t.cells s.cells h.cells; handlers = values_long P t.handlers s.handlers h.handlers } }, k (record t { units = t.units + c }) (take_more c h))
 
-  pub takes_some : (b m : ℕ) (c : ℕ) (t : Site) (s : meaning.Site) (fs : List Frame) (f : Focus) (go_on : Site → (Ran Closure)) → Tied P u b 0 t s → Weighs P (meaning_step.site_next P u (src s fs f)) (src s fs f) m → c ≤ 4 * step_weight P m → ((t1 : Site) → Tied P u b c t1 s → Meets P u (go_on t1) (src s fs f)) → Meets P u (taking_some c t go_on) (src s fs f)
-  takes_some b m zero t s fs f go_on h wg le k = k t h
-  takes_some b m (suc c) t s fs f go_on h wg le k = takes b 0 m (suc c) t s fs f go_on h wg (omega (arith, le)) (λ t1 h1. k t1 (lent (suc c) h1 (omega arith)))
+  pub objects_made : (b m : ℕ) (c : ℕ) (t : Site) (s : meaning.Site) (fs : List Frame) (f : Focus) (go_on : Site → (Ran Closure)) → Tied P u b 0 t s → Weighs P (meaning_step.site_next P u (src s fs f)) (src s fs f) m → c ≤ 4 * step_weight P m → ((t1 : Site) → Tied P u b c t1 s → Meets P u (go_on t1) (src s fs f)) → Meets P u (taking_some c t go_on) (src s fs f)
+  objects_made b m zero t s fs f go_on h wg le k = k t h
+  objects_made b m (suc c) t s fs f go_on h wg le k = object_made b 0 m (suc c) t s fs f go_on h wg (omega (arith, le)) (λ t1 h1. k t1 (lent (suc c) h1 (omega arith)))
 
   -- what is evaluated comes back, in a step or more
   abbrev pub Returns : Expression → Type 0
@@ -138,12 +138,12 @@ module _ (P : Program) (u : World) (site : IsSiteWorld u) where
   constant_evals : (f : LeafForm) → IsAtom f → leaf_units f ≤ 4 * step_weight P (text_size f) → (K : Static) → Resumes P u K → (t : Site) (s : meaning.Site) (n : ℕ) (ρ : ℕ → Value) (fs : List Frame) (w : World) → Frames u (In P ρ) n K fs → Tied P u 1 0 t s → Narrow (W P) (rest P K n (suc n)) (suc n) → Meets P u (taking_some (leaf_units f) t (run u (rest P K n (suc n)) (suc n) (put n (atom f) ρ))) (src s fs (Eval w (leaf f)))
   constant_evals f a le K rs t s n ρ fs w fr h nr =
       let step : Goes (src s fs (Eval w (leaf f))) (src (ticked P (text_size f) s) fs (Returned w (leaf f))) = atom_step f a s fs w in
-      takes_some 1 (text_size f) (leaf_units f) t s fs (Eval w (leaf f)) _ h (subst (λ x. Weighs P x (src s fs (Eval w (leaf f))) (text_size f)) (sym step) (omega arith)) le (λ t1 h1. back P u _ _ (src (ticked P (text_size f) s) fs (Returned w (leaf f))) step (fills K rs (atom f) (leaf f) t1 (ticked P (text_size f) s) n ρ fs w (refl, a) fr (step_pays (text_size f) h1 le) nr))
+      objects_made 1 (text_size f) (leaf_units f) t s fs (Eval w (leaf f)) _ h (subst (λ x. Weighs P x (src s fs (Eval w (leaf f))) (text_size f)) (sym step) (omega arith)) le (λ t1 h1. back P u _ _ (src (ticked P (text_size f) s) fs (Returned w (leaf f))) step (fills K rs (atom f) (leaf f) t1 (ticked P (text_size f) s) n ρ fs w (refl, a) fr (step_pays (text_size f) h1 le) nr))
 
   -- a closure that is a value
   pub closure_evals : (y : Entry) (b : Code) (v : Expression) (K : Static) → Resumes P u K → (t : Site) (s : meaning.Site) (n : ℕ) (ρ : ℕ → Value) (fs : List Frame) (w : World) → Goes (src s fs (Eval w v)) (src (ticked P 0 s) fs (Returned w v)) → Reads P (closed (over y n b) ρ) (SVal v) → Frames u (In P ρ) n K fs → Tied P u 1 0 t s → Narrow (W P) (closure y b (rest P K n (suc n))) n → Meets P u (run u (closure y b (rest P K n (suc n))) n ρ t) (src s fs (Eval w v))
   closure_evals y b v K rs t s n ρ fs w step r fr h nr =
-      takes 1 0 0 (closure_units (captured n b)) t s fs (Eval w v) _ h (subst (λ x. Weighs P x (src s fs (Eval w v)) 0) (sym step) (omega arith)) (omega (arith, nr.0)) (λ t1 h1. back P u _ _ (src (ticked P 0 s) fs (Returned w v)) step (fills K rs (closed (over y n b) ρ) v t1 (ticked P 0 s) n ρ fs w r fr (step_pays 0 h1 (omega (arith, nr.0))) nr.2))
+      object_made 1 0 0 (closure_units (captured n b)) t s fs (Eval w v) _ h (subst (λ x. Weighs P x (src s fs (Eval w v)) 0) (sym step) (omega arith)) (omega (arith, nr.0)) (λ t1 h1. back P u _ _ (src (ticked P 0 s) fs (Returned w v)) step (fills K rs (closed (over y n b) ρ) v t1 (ticked P 0 s) n ρ fs w r fr (step_pays 0 h1 (omega (arith, nr.0))) nr.2))
 
   here_evals : (K : Static) → Resumes P u K → (t : Site) (s : meaning.Site) (n : ℕ) (ρ : ℕ → Value) (fs : List Frame) (w : World) → w ≡ u → Frames u (In P ρ) n K fs → Tied P u 1 0 t s → Narrow (W P) (rest P K n (suc n)) (suc n) → Meets P u (run u (rest P K n (suc n)) (suc n) (put n (atom (leaf_form.Addr u)) ρ) t) (src s fs (Eval w (leaf leaf_form.Here)))
   here_evals K rs t s n ρ fs w e fr h nr = back P u _ _ (src (ticked P 0 s) fs (Returned w (leaf (leaf_form.Addr w)))) refl (fills K rs (atom (leaf_form.Addr u)) (leaf (leaf_form.Addr w)) t (ticked P 0 s) n ρ fs w (ap (λ x. leaf (leaf_form.Addr x)) e, site) fr (step_pays 0 h (omega arith)) nr)

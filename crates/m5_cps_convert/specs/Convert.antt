@@ -12,10 +12,9 @@ use Rattle.m5_terms.specs.declared.form.TernaryForm.TheVariants as ternary_form
 use Rattle.m5_typing.specs.declared.functions.Function.{Function}
 use Rattle.m5_typing.specs.Context.{local, valid, Setting}
 use Rattle.m5_typing.specs.Program.{ProgramTerm, setting_of}
-use Rattle.m5_cps.specs.Entries.{only, world_of}
-use Rattle.m5_cps.specs.Blocks.{unheld, unsham, if_true, if_left, if_nil, ask, Code, straight, test, ends, Blocks}
-use Rattle.m5_cps_convert.specs.TypeParts.{first_of, second_of, content_of, place_of}
-use Rattle.m5_cps_convert.specs.Types.{type_of}
+use Rattle.m5_cps.specs.Entries.{only, by_call, world_of}
+use Rattle.m5_cps.specs.Blocks.{unheld, unsham, if_true, if_left, if_nil, ask, Code, straight, test, ends, Block, Blocks}
+use Rattle.m5_cps.specs.TypeOf.{first_of, second_of, content_of, place_of, type_of}
 use Rattle.m5_cps_convert.specs.Scopes.{Scope, empty_scope, bind, fn_scope}
 use Rattle.m5_cps_convert.specs.Continuations.{Continuation, Tail, Then, Part, reify, taking, leaf_code, body_code, start_code, arm_code}
 use Rattle.m5_cps_convert.specs.Forms.{unary_code, binary_end, variable_of, get_code}
@@ -73,13 +72,16 @@ cps E (binary f a b) Γ n κ =
 cps E (ternary f a b c) Γ n κ =
     cps E a Γ n (Then (λ x m. ternary_rest f (type_in E (ternary f a b c) Γ) (type_in E a Γ) (cps E b) (cps E c) Γ x m κ))
 
--- a declared function's block, with itself, its argument and its continuation in slots 0, 1 and 2
-abbrev pub function_block : Setting → Function → Code
-function_block E g = body_code (cps E g.body) (fn_scope g.parameter g.ty 0 (empty_scope (only g.world))) 0
+-- a declared function's block is called where it stands, with itself, its argument and its continuation in slots 0, 1 and 2
+abbrev pub function_code : Setting → Function → Code
+function_code E g = body_code (cps E g.body) (fn_scope g.parameter g.ty 0 (empty_scope (only g.world))) 0
+
+abbrev pub function_block : Setting → Function → Block
+function_block E g = record { entry = by_call (only g.world) g.ty g.result; code = function_code E g }
 
 -- main's block, with its closure and unit in slots 0 and 1
-abbrev pub main_block : Setting → Expression → Code
-main_block E e = start_code (cps E e) (empty_scope (only Home)) 0
+abbrev pub main_code : Setting → Expression → Code
+main_code E e = start_code (cps E e) (empty_scope (only Home)) 0
 
 abbrev pub program_blocks : ProgramTerm → Blocks
-program_blocks P = let E = setting_of P.functions in record { functions = map (function_block E) P.functions; main = main_block E P.main }
+program_blocks P = let E = setting_of P.functions in record { functions = map (function_block E) P.functions; main = main_code E P.main }

@@ -1,5 +1,3 @@
-pub mod TypeParts
-pub mod Types
 pub mod Scopes
 pub mod Continuations
 pub mod Forms

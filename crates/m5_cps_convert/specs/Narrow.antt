@@ -2,7 +2,7 @@
 use Rattle.std.specs.Prelude.{ℕ, suc, ◌≤◌}
 use Rattle.m5_typing.specs.Width.{program_width}
 use Rattle.m5_typing.specs.Program.{ProgramTerm}
-use Rattle.m5_cps.specs.Entries.{Entry, by_value, by_call}
+use Rattle.m5_cps.specs.Entries.{entry_filled}
 use Rattle.m5_cps.specs.Blocks.{Test, if_left, if_nil, Ending, call, ask, send, Code, straight, closure, test, ends}
 use Rattle.m5_cps.specs.Running.{captured}
 
@@ -10,12 +10,7 @@ use Rattle.m5_cps.specs.Running.{captured}
 abbrev pub widest : ProgramTerm → ℕ
 widest P = suc (program_width P)
 
--- how many slots are filled where a closure's block begins
-abbrev pub entry_filled : Entry → ℕ → ℕ
-entry_filled (by_value m T) n = suc (suc n)
-entry_filled (by_call m A B) n = suc (suc (suc n))
-
--- and in the two ways of a test
+-- how many slots are filled in the two ways of a test
 abbrev pub yes_filled : Test → ℕ → ℕ
 yes_filled if_left n = suc n
 yes_filled _ n = n
