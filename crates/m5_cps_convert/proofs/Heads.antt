@@ -79,3 +79,14 @@ head_of P (join value.cons a b) v r = subst (Head P (join value.cons a b)) (sym 
 head_of P (closed (over (by_value m T) n c) ρ) v r = absurd r
 head_of P (closed (over (by_call m A B) n c) ρ) v (inl r) = subst (Head P (closed (over (by_call m A B) n c) ρ)) (sym r.is) (fns m A B n c ρ r.x r.parameter _ (subst (λ y. Reads P (closed (over (by_call m A B) n c) ρ) (SVal y)) r.is (inl r)))
 head_of P (closed (over (by_call m A B) n c) ρ) v (inr r) = subst (Head P (closed (over (by_call m A B) n c) ρ)) (sym r.is) (recs m A B n c ρ r.f r.x r.parameter r.result _ (subst (λ y. Reads P (closed (over (by_call m A B) n c) ρ) (SVal y)) r.is (inr r)))
+
+pub reads_of : {P : Program} {c : Value} {v : Expression} → Head P c v → Reads P c (SVal v)
+reads_of (atoms f i) = (refl, i)
+reads_of (lefts T a x r) = (x, refl, r)
+reads_of (rights T a x r) = (x, refl, r)
+reads_of (helds w a x r) = (x, refl, r)
+reads_of (shams a x r) = (x, refl, r)
+reads_of (pairs a b x y ra rb) = (x, y, refl, ra, rb)
+reads_of (conses a b x y ra rb) = (x, y, refl, ra, rb)
+reads_of (fns m A B n c ρ x T e r) = r
+reads_of (recs m A B n c ρ f x T R e r) = r

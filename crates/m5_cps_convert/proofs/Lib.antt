@@ -6,3 +6,8 @@ pub mod Straight
 pub mod Heads
 pub mod Parts
 pub mod Calls
+pub mod Stops
+pub mod Made
+pub mod Light
+pub mod Ends
+pub mod OneForms

@@ -66,15 +66,15 @@ stands_here u w e q (inl p) = p
 stands_here u w e q (inr p) = absurd (cc)
 
 -- what keeps the variables' slots
-abbrev pub Same : (Scope → Scope) → Type 0
-Same sc = (Γ : Scope) → (sc Γ).slots ≡ Γ.slots
+abbrev pub SameSlots : (Scope → Scope) → Type 0
+SameSlots sc = (Γ : Scope) → (sc Γ).slots ≡ Γ.slots
 
 pub fits_same : (P : Program) (ρ : ℕ → Value) (n : ℕ) (Γ Δ : Scope) (γ : Values) → Δ.slots ≡ Γ.slots → Fits (In P ρ) n Γ γ → Fits (In P ρ) n Δ γ
 fits_same P ρ n Γ Δ γ e f = λ x. subst (λ s. FitsAt (In P ρ) n (s x) (γ x)) (sym e) (f x)
 
 module _ (P : Program) (u : World) (site : IsSiteWorld u) where
   -- a node begins with its first part, in the scope that it makes for it
-  pub begins : (e a : Expression) (inner : World → World) (sc : Scope → Scope) → Same sc → Evals P u a → ((Γ : Scope) (n : ℕ) (K : Static) → code P e Γ n K ≡ code P a (sc Γ) n (SFirst Γ e K)) →
+  pub begins : (e a : Expression) (inner : World → World) (sc : Scope → Scope) → SameSlots sc → Evals P u a → ((Γ : Scope) (n : ℕ) (K : Static) → code P e Γ n K ≡ code P a (sc Γ) n (SFirst Γ e K)) →
       ((s : meaning.Site) (fs : List Frame) (w : World) (γ : Values) → Goes P u site (src s fs (Eval w (close γ e))) (src (ticked P 0 s) (frame.Part w (close γ e) 0 ∷ fs) (Eval (inner w) (close γ a)))) → 1 ≤ parts e →
       ((K : Static) → IsSlotted e K) → (Proper e → Proper a) → ((w : World) → Proper e → StandsAt u w e → StandsAt u (inner w) a) → ((K : Static) → Resumes P u K → (Γ : Scope) → Resumes P u (SFirst Γ e K)) → Evals P u e
   begins e a inner sc keeps ea same starts some slotted proper stands rf = record {

@@ -50,14 +50,13 @@ kont E (SFirst Γ e K) = Then (λ x n. first_rest E e Γ x n (kont E K))
 kont E (SSecond Γ e x K) = Then (λ y n. second_rest E e Γ x y n (kont E K))
 kont E (SArgument Γ p b K) = Then (λ y n. ask_code p (type_in E (direct_call p b) Γ) Γ y n (kont E K))
 
--- a get and a division have their continuation in a slot before their first part
+-- a get has its continuation in a slot before its first part
 abbrev pub IsTail : Static → Type 0
 IsTail (STail k) = Unit {0}
 IsTail K = ⊥
 
 abbrev pub IsSlotted : Expression → Static → Type 0
 IsSlotted (binary binary_form.Get a b) K = IsTail K
-IsSlotted (unary unary_form.Div a) K = IsTail K
 IsSlotted e K = Unit {0}
 
 -- it does more than go to a continuation
