@@ -1,4 +1,5 @@
 pub mod Substitutions
+pub mod Twice
 pub mod Slots
 pub mod Meets
 pub mod Weights
@@ -11,3 +12,7 @@ pub mod Made
 pub mod Light
 pub mod Ends
 pub mod OneForms
+pub mod TwoForms
+pub mod CallForms
+pub mod Binding
+pub mod Choices

@@ -68,7 +68,7 @@ use Rattle.m5_cps_convert.proofs.Ends.{tail_resumes}
 use Rattle.m5_cps_convert.proofs.Made.{Agree, bytes_made, IsOne, one_first}
 
 -- a truth value on both sides
-either : (P : Program) (b : Bool) (m k : Made Closure) (r q : reduction.Reduced) → Agree P m r → Agree P k q → Agree P (if b then m else k) (if b then r else q)
+pub either : (P : Program) (b : Bool) (m k : Made Closure) (r q : reduction.Reduced) → Agree P m r → Agree P k q → Agree P (if b then m else k) (if b then r else q)
 either P true m k r q h g = h
 either P false m k r q h g = g
 
