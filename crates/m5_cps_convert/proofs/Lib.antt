@@ -16,3 +16,5 @@ pub mod TwoForms
 pub mod CallForms
 pub mod Binding
 pub mod Choices
+pub mod Moves
+pub mod Gets

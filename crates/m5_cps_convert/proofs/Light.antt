@@ -55,9 +55,15 @@ use Rattle.m5_cps_convert.specs.Reading.{setting, wrapped, joined, IsAtom, Reads
 use Rattle.m5_cps_convert.specs.Threads.{IsEntered, ReadsThread, ReadsThreads, ReadsValues, ReadsItem, ReadsState}
 use Rattle.m5_terms.specs.Size.{node_size, frames_size}
 use Rattle.m5_cps.specs.Running.{value_units}
+use Rattle.std.proofs.Common.{Option, None}
+use Rattle.m5_cps_convert.specs.Forms.{variable_of}
+use Rattle.m5_cps_convert.proofs.Slots.{In}
 
 pub value_light : (P : Program) (c : Value) (v : Expression) → Reads P c (SVal v) → value_units c + 2 ≤ 4 * node_size v
 value_light P c v r = ?
 
 pub kont_light : (P : Program) (k : Value) (u : World) (fs : List Frame) → Reads P k (SKont u fs) → value_units k ≤ 4 * frames_size fs + 2
 kont_light P k u fs r = ?
+
+pub goal_light : (P : Program) (n : ℕ) (m : Mode) (T : SlotType) (ρ : ℕ → Value) (Γ : Scope) (γ : Values) (b : Expression) → Fits (In P ρ) n Γ γ → variable_of b ≡ None → value_units (closed (over (by_value m T) n (goal_code (cps (setting P) b) Γ n)) ρ) + 2 ≤ 4 * node_size (close γ b)
+goal_light P n m T ρ Γ γ b f q = ?
