@@ -18,3 +18,5 @@ pub mod Binding
 pub mod Choices
 pub mod Moves
 pub mod Gets
+pub mod Asked
+pub mod Entering
