@@ -20,3 +20,6 @@ pub mod Moves
 pub mod Gets
 pub mod Asked
 pub mod Entering
+pub mod Beginning
+pub mod Handlers
+pub mod Whole
