@@ -23,3 +23,4 @@ pub mod Entering
 pub mod Beginning
 pub mod Handlers
 pub mod Whole
+pub mod Uses
