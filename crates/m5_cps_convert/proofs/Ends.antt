@@ -59,29 +59,8 @@ use Rattle.m5_cps.specs.Running.{value_units}
 use Rattle.m5_cps_convert.proofs.Slots.{In}
 use Rattle.m5_cps_convert.proofs.Meets.{W, rest, src, ticked, Tied, step_pays, behind, Meets, Resumes}
 use Rattle.m5_cps_convert.proofs.Calls.{front_reads}
+use Rattle.m5_cps_convert.proofs.Addresses.{address_value}
 use Rattle.m5_cps_convert.proofs.Light.{value_light, kont_light}
-
-no_unary : {A : Type 0} {f : LeafForm} {g : UnaryForm} {x : Expression} → leaf f ≡ unary g x → A
-no_unary e = absurd (cc)
-
-no_binary : {A : Type 0} {f : LeafForm} {g : BinaryForm} {x y : Expression} → leaf f ≡ binary g x y → A
-no_binary e = absurd (cc)
-
-same_leaf : (f g : LeafForm) → leaf f ≡ leaf g → f ≡ g
-same_leaf f g e = cc
-
--- what is read back to an address is that address
-pub address_value : (P : Program) (d : Value) (v : World) → Reads P d (SVal (leaf (leaf_form.Addr v))) → d ≡ atom (leaf_form.Addr v)
-address_value P (atom f) v r = ap atom (sym (same_leaf (leaf_form.Addr v) f r.0))
-address_value P (wrap (value.left T) d) v r = no_unary r.1
-address_value P (wrap (value.right T) d) v r = no_unary r.1
-address_value P (wrap (value.held x) d) v r = no_unary r.1
-address_value P (wrap value.sham d) v r = no_unary r.1
-address_value P (join value.pair d e) v r = no_binary r.2
-address_value P (join value.cons d e) v r = no_binary r.2
-address_value P (closed (over (by_value m T) n c) ρ) v r = absurd r
-address_value P (closed (over (by_call m A B) n c) ρ) v (inl r) = no_unary r.is
-address_value P (closed (over (by_call m A B) n c) ρ) v (inr r) = no_unary r.is
 
 module _ (P : Program) (u : World) (site : IsSiteWorld u) where
   pub site_reads : (t : Site) (s : meaning.Site) → Tied P u 0 0 t s → ReadsState P u t s

@@ -24,3 +24,7 @@ pub mod Beginning
 pub mod Handlers
 pub mod Whole
 pub mod Uses
+pub mod Sums
+pub mod Occurrences
+pub mod StaticUses
+pub mod Addresses

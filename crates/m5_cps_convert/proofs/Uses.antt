@@ -77,13 +77,13 @@ either : {X : Type 0} (a b : Bool) → (IsTrue a → X) → (IsTrue b → X) →
 either true b f g h = f refl
 either false b f g h = g h
 
-same_slot : (l x : ℕ) → IsTrue (l == x) → l ≡ x
+pub same_slot : (l x : ℕ) → IsTrue (l == x) → l ≡ x
 same_slot l x h = grind (arith, h)
 
-own_slot : (k : ℕ) → IsTrue (k == k)
+pub own_slot : (k : ℕ) → IsTrue (k == k)
 own_slot k = grind arith
 
-first_true : (a b : Bool) → IsTrue a → IsTrue (a || b)
+pub first_true : (a b : Bool) → IsTrue a → IsTrue (a || b)
 first_true true b h = refl
 first_true false b h = absurd (cc)
 
@@ -102,31 +102,31 @@ module _ (n : ℕ) (Ok : ℕ → Type 0) where
   pub fresh : (p : ℕ) → n ≤ p → Fine p
   fresh p h i = absurd (omega (arith, h, i))
 
-  is_fine : (x : ℕ) → Fine x → (l : ℕ) → l < n → IsTrue (l == x) → Ok l
+  pub is_fine : (x : ℕ) → Fine x → (l : ℕ) → l < n → IsTrue (l == x) → Ok l
   is_fine x f l h e = subst Ok (sym (same_slot l x e)) (f (subst (λ y. y < n) (same_slot l x e) h))
 
-  abbrev StraightSafe : Straight → Type 0
+  abbrev pub StraightSafe : Straight → Type 0
   StraightSafe f = (l : ℕ) → l < n → IsTrue (straight_uses f l) → Ok l
 
-  safe_straight : (f : Straight) (c : Code) → StraightSafe f → Safe c → Safe (straight f c)
+  pub safe_straight : (f : Straight) (c : Code) → StraightSafe f → Safe c → Safe (straight f c)
   safe_straight f c h g = record { by = λ l i. either (straight_uses f l) (uses c l) (h l i) (g.by l i) }
 
-  no_use : (l : ℕ) → l < n → IsTrue false → Ok l
+  pub no_use : (l : ℕ) → l < n → IsTrue false → Ok l
   no_use l i u = absurd (true≢false (sym u))
 
-  safe_closure : (y : Entry) (b c : Code) → Safe b → Safe c → Safe (closure y b c)
+  pub safe_closure : (y : Entry) (b c : Code) → Safe b → Safe c → Safe (closure y b c)
   safe_closure y b c h g = record { by = λ l i. either (uses b l) (uses c l) (h.by l i) (g.by l i) }
 
-  safe_test : (t : Test) (x : ℕ) (b c : Code) → Fine x → Safe b → Safe c → Safe (test t x b c)
+  pub safe_test : (t : Test) (x : ℕ) (b c : Code) → Fine x → Safe b → Safe c → Safe (test t x b c)
   safe_test t x b c f h g = record { by = λ l i. either (l == x) (uses b l || uses c l) (is_fine x f l i) (either (uses b l) (uses c l) (h.by l i) (g.by l i)) }
 
-  safe_two : (x y : ℕ) → Fine x → Fine y → (l : ℕ) → l < n → IsTrue (l == x || l == y) → Ok l
+  pub safe_two : (x y : ℕ) → Fine x → Fine y → (l : ℕ) → l < n → IsTrue (l == x || l == y) → Ok l
   safe_two x y f g l i = either (l == x) (l == y) (is_fine x f l i) (is_fine y g l i)
 
-  safe_three : (x y z : ℕ) → Fine x → Fine y → Fine z → (l : ℕ) → l < n → IsTrue (l == x || (l == y || l == z)) → Ok l
+  pub safe_three : (x y z : ℕ) → Fine x → Fine y → Fine z → (l : ℕ) → l < n → IsTrue (l == x || (l == y || l == z)) → Ok l
   safe_three x y z f g k l i = either (l == x) (l == y || l == z) (is_fine x f l i) (safe_two y z g k l i)
 
-  safe_go : (k x : ℕ) → Fine k → Fine x → Safe (block.ends (go k x))
+  pub safe_go : (k x : ℕ) → Fine k → Fine x → Safe (block.ends (go k x))
   safe_go k x f g = record { by = safe_two k x f g }
 
   pub tail_safe : (k : ℕ) → Fine k → KSafe (Tail k)
@@ -135,10 +135,10 @@ module _ (n : ℕ) (Ok : ℕ → Type 0) where
   pub end_safe : KSafe thread_end
   end_safe x p h g = record { by = λ l i u. absurd (true≢false (sym u)) }
 
-  slot_fine : (k : ℕ) → KSafe (Tail k) → Fine k
+  pub slot_fine : (k : ℕ) → KSafe (Tail k) → Fine k
   slot_fine k h i = (h n n (omega arith) (fresh n (omega arith))).by k i (first_true (k == k) (k == n) (own_slot k))
 
-  safe_reify : (y : Entry) (κ : Continuation) (p : ℕ) (g : ℕ → ℕ → Code) → n ≤ p → KSafe κ → ((k m : ℕ) → n ≤ m → Fine k → Safe (g k m)) → Safe (reify y κ p g)
+  pub safe_reify : (y : Entry) (κ : Continuation) (p : ℕ) (g : ℕ → ℕ → Code) → n ≤ p → KSafe κ → ((k m : ℕ) → n ≤ m → Fine k → Safe (g k m)) → Safe (reify y κ p g)
   safe_reify y (Tail k) p g i h f = f k p i (slot_fine k h)
   safe_reify y (Then c) p g i h f = safe_closure y _ _ (h (suc p) (suc (suc p)) (omega (arith, i)) (fresh (suc p) (omega (arith, i)))) (f p (suc p) (omega (arith, i)) (fresh p i))
 
@@ -157,14 +157,14 @@ module _ (n : ℕ) (Ok : ℕ → Type 0) where
     abbrev pub KnownBut : List ℕ → Expression → VariableSlots → Type 0
     KnownBut bs e slots = (z l : ℕ) → among z bs ≡ false → Occurs z e → slots z ≡ Some l → Fine l
 
-    one_known : (y x : ℕ) (e : Expression) (slots : VariableSlots) → KnownBut (y ∷ []) e slots → Fine x → KnownIn e (put y (Some x) slots)
+    pub one_known : (y x : ℕ) (e : Expression) (slots : VariableSlots) → KnownBut (y ∷ []) e slots → Fine x → KnownIn e (put y (Some x) slots)
     one_known y x e slots h f z l o = at (z == y) refl
       where
         at : (t : Bool) → (z == y) ≡ t → (if t then Some x else slots z) ≡ Some l → Fine l
         at true q s = let r : x ≡ l = cc in subst Fine r f
         at false q s = h z l (ap (λ t. t || false) q) o s
 
-    two_known : (y x y1 x1 : ℕ) (e : Expression) (slots : VariableSlots) → KnownBut (y ∷ y1 ∷ []) e slots → Fine x → Fine x1 → KnownIn e (put y (Some x) (put y1 (Some x1) slots))
+    pub two_known : (y x y1 x1 : ℕ) (e : Expression) (slots : VariableSlots) → KnownBut (y ∷ y1 ∷ []) e slots → Fine x → Fine x1 → KnownIn e (put y (Some x) (put y1 (Some x1) slots))
     two_known y x y1 x1 e slots h f g z l o = at (z == y) refl
       where
         inner : (t : Bool) → (z == y1) ≡ t → (z == y) ≡ false → (if t then Some x1 else slots z) ≡ Some l → Fine l
@@ -197,16 +197,16 @@ module _ (n : ℕ) (Ok : ℕ → Type 0) where
     leaf_used (leaf_form.CellAt g j) Γ p κ i k h = constant_safe (leaf_form.CellAt g j) p κ i h
 
     -- blocks of their own
-    body_safe : (e : Expression) (Γ : Scope) (p : ℕ) → n ≤ p → Uses e → Known e Γ → Safe (body_code (cps E e) Γ p)
+    pub body_safe : (e : Expression) (Γ : Scope) (p : ℕ) → n ≤ p → Uses e → Known e Γ → Safe (body_code (cps E e) Γ p)
     body_safe e Γ p i u k = u Γ (suc (suc (suc p))) (Tail (suc (suc p))) (omega (arith, i)) k (tail_safe (suc (suc p)) (fresh (suc (suc p)) (omega (arith, i))))
 
-    goal_safe : (e : Expression) (Γ : Scope) (p : ℕ) → n ≤ p → Uses e → Known e Γ → Safe (goal_code (cps E e) Γ p)
+    pub goal_safe : (e : Expression) (Γ : Scope) (p : ℕ) → n ≤ p → Uses e → Known e Γ → Safe (goal_code (cps E e) Γ p)
     goal_safe e Γ p i u k = u Γ (suc (suc p)) (Tail (suc p)) (omega (arith, i)) k (tail_safe (suc p) (fresh (suc p) (omega (arith, i))))
 
-    start_safe : (e : Expression) (Γ : Scope) (p : ℕ) → n ≤ p → Uses e → Known e Γ → Safe (start_code (cps E e) Γ p)
+    pub start_safe : (e : Expression) (Γ : Scope) (p : ℕ) → n ≤ p → Uses e → Known e Γ → Safe (start_code (cps E e) Γ p)
     start_safe e Γ p i u k = u Γ (suc (suc p)) thread_end (omega (arith, i)) k end_safe
 
-    rest_safe : (f : UnaryForm) (κ : Continuation) → KSafe κ → KSafe (Then (λ x m. unary_rest f x m κ))
+    pub rest_safe : (f : UnaryForm) (κ : Continuation) → KSafe κ → KSafe (Then (λ x m. unary_rest f x m κ))
     rest_safe f κ h x q i g = safe_straight _ _ (λ l j u. is_fine x g l j u) (h q (suc q) (omega (arith, i)) (fresh q i))
 
     straight_used : (f : UnaryForm) (a : Expression) (Γ Δ : Scope) (p : ℕ) (κ : Continuation) → Uses a → Δ.slots ≡ Γ.slots → n ≤ p → ((z l : ℕ) → Occurs z a → Γ.slots z ≡ Some l → Fine l) → KSafe κ → Safe (cps E a Δ p (Then (λ x m. unary_rest f x m κ)))
@@ -282,7 +282,7 @@ module _ (n : ℕ) (Ok : ℕ → Type 0) where
     direct_bare _ a z = inl refl
 
     -- arms
-    arm_safe : (T : TypeExpression) (e : Expression) (Γ : Scope) (m k : ℕ) → n ≤ m → Uses e → Known e Γ → Fine k → Safe (arm_code T (cps E e) Γ m k)
+    pub arm_safe : (T : TypeExpression) (e : Expression) (Γ : Scope) (m k : ℕ) → n ≤ m → Uses e → Known e Γ → Fine k → Safe (arm_code T (cps E e) Γ m k)
     arm_safe T e Γ m k i u known fk = at (nat_lt Γ.arms 500)
       where
         at : (t : Bool) → Safe (if t then cps E e (in_arm Γ) m (Tail k) else closure (by_value Γ.mode (takes (of T))) (goal_code (cps E e) (in_block Γ.mode Γ) m) (block.ends (go m k)))
