@@ -28,3 +28,4 @@ pub mod Sums
 pub mod Occurrences
 pub mod StaticUses
 pub mod Addresses
+pub mod Widths

@@ -229,17 +229,17 @@ module _ (n : ℕ) (Ok : ℕ → Type 0) where
     unary_used (unary_form.Held v) a u Γ p κ i k h = straight_used (unary_form.Held v) a Γ Γ p κ u refl i (λ z q o e. k z q (refl, o) e) h
 
     -- a get's ways
-    away_goal_safe : (T : TypeExpression) (v : World) (x g k p : ℕ) → n ≤ p → Fine x → Fine g → Fine k → Safe (away_with_goal T v x g k p)
+    pub away_goal_safe : (T : TypeExpression) (v : World) (x g k p : ℕ) → n ≤ p → Fine x → Fine g → Fine k → Safe (away_with_goal T v x g k p)
     away_goal_safe T v x g k p i fx fg fk = safe_straight _ _ no_use (safe_closure _ _ _ (record { by = safe_three p k (suc (suc p)) (fresh p i) fk (fresh (suc (suc p)) (omega (arith, i))) }) (record { by = safe_three x g (suc p) fx fg (fresh (suc p) (omega (arith, i))) }))
 
-    value_safe : (T : TypeExpression) (v : World) (x y k p : ℕ) → n ≤ p → Fine x → Fine y → Fine k → Safe (get_value T v x y k p)
+    pub value_safe : (T : TypeExpression) (v : World) (x y k p : ℕ) → n ≤ p → Fine x → Fine y → Fine k → Safe (get_value T v x y k p)
     value_safe T v x y k p i fx fy fk = safe_test if_here x _ _ fx (safe_go k y fk fy) (safe_straight _ _ no_use (safe_closure _ _ _ (record { by = safe_three p k (suc (suc p)) (fresh p i) fk (fresh (suc (suc p)) (omega (arith, i))) }) (record { by = safe_three x (suc p) y fx (fresh (suc p) (omega (arith, i))) fy })))
 
-    get_variable_safe : (T : TypeExpression) (v : World) (x k p : ℕ) (o : Option ℕ) → n ≤ p → Fine x → ((l : ℕ) → o ≡ Some l → Fine l) → Fine k → Safe (get_variable T v x o k p)
+    pub get_variable_safe : (T : TypeExpression) (v : World) (x k p : ℕ) (o : Option ℕ) → n ≤ p → Fine x → ((l : ℕ) → o ≡ Some l → Fine l) → Fine k → Safe (get_variable T v x o k p)
     get_variable_safe T v x k p None i fx fo fk = safe_straight _ _ no_use (value_safe T v x p k (suc p) (omega (arith, i)) fx (fresh p i) fk)
     get_variable_safe T v x k p (Some l) i fx fo fk = value_safe T v x l k p i fx (fo l refl) fk
 
-    named_occurs : (b : Expression) (z : ℕ) → variable_of b ≡ Some z → Occurs z b
+    pub named_occurs : (b : Expression) (z : ℕ) → variable_of b ≡ Some z → Occurs z b
     named_occurs (leaf (leaf_form.Var x)) z e = cc
     named_occurs (leaf (leaf_form.Valid x)) z e = cc
     named_occurs _ z e = absurd (cc)
@@ -252,7 +252,7 @@ module _ (n : ℕ) (Ok : ℕ → Type 0) where
         at (Some z) e = get_variable_safe T v x k p (Γ.slots z) i fx (λ l s. known z l (named_occurs b z e) s) fk
 
     -- what follows the first part
-    two_safe : (f : BinaryForm) (b : Expression) (Γ : Scope) (x m : ℕ) (κ : Continuation) → Uses b → n ≤ m → Known b Γ → Fine x → KSafe κ → Safe (cps E b Γ m (Then (λ y q. straight (block.two f x y) (apply κ q (suc q)))))
+    pub two_safe : (f : BinaryForm) (b : Expression) (Γ : Scope) (x m : ℕ) (κ : Continuation) → Uses b → n ≤ m → Known b Γ → Fine x → KSafe κ → Safe (cps E b Γ m (Then (λ y q. straight (block.two f x y) (apply κ q (suc q)))))
     two_safe f b Γ x m κ u i known fx h = u Γ m _ i known (λ y q j fy. safe_straight _ _ (safe_two x y fx fy) (h q (suc q) (omega (arith, j)) (fresh q j)))
 
     pub rest_of_two_safe : (f : BinaryForm) (T A : TypeExpression) (a b : Expression) (Γ : Scope) (x m : ℕ) (κ : Continuation) → Uses b → n ≤ m → ((z l : ℕ) → among z (binary_binders f) ≡ false → Occurs z b → Γ.slots z ≡ Some l → Fine l) → Fine x → KSafe κ → Safe (binary_rest f T A (variable_of b) (cps E b) Γ x m κ)
@@ -269,15 +269,15 @@ module _ (n : ℕ) (Ok : ℕ → Type 0) where
     rest_of_two_safe (binary_form.Binary o) T A a b Γ x m κ u i k fx h = two_safe (binary_form.Binary o) b Γ x m κ u i (λ z l o e. k z l refl o e) fx h
 
     -- the first part, and then the rest
-    first_used : (f : BinaryForm) (T A : TypeExpression) (a b : Expression) (Γ : Scope) (p : ℕ) (κ : Continuation) → Uses a → Uses b → n ≤ p → Known (binary f a b) Γ → KSafe κ → Safe (cps E a Γ p (Then (λ x m. binary_rest f T A (variable_of b) (cps E b) Γ x m κ)))
+    pub first_used : (f : BinaryForm) (T A : TypeExpression) (a b : Expression) (Γ : Scope) (p : ℕ) (κ : Continuation) → Uses a → Uses b → n ≤ p → Known (binary f a b) Γ → KSafe κ → Safe (cps E a Γ p (Then (λ x m. binary_rest f T A (variable_of b) (cps E b) Γ x m κ)))
     first_used f T A a b Γ p κ ua ub i k h = ua Γ p _ i (λ z l o e. k z l (inl o) e) (λ x m j fx. rest_of_two_safe f T A a b Γ x m κ ub j (λ z l q o e. k z l (inr (q, o)) e) fx h)
 
-    binary_used : (f : BinaryForm) (T A : TypeExpression) (a b : Expression) (Γ : Scope) (p : ℕ) (κ : Continuation) (d : Option Primitive) → Uses a → Uses b → n ≤ p → Known (binary f a b) Γ → ((z l : ℕ) → d ≡ None ⊎ (among z (binary_binders f) ≡ false)) → KSafe κ → Safe (binary_code d f T A (variable_of b) (cps E a) (cps E b) Γ p κ)
+    pub binary_used : (f : BinaryForm) (T A : TypeExpression) (a b : Expression) (Γ : Scope) (p : ℕ) (κ : Continuation) (d : Option Primitive) → Uses a → Uses b → n ≤ p → Known (binary f a b) Γ → ((z l : ℕ) → d ≡ None ⊎ (among z (binary_binders f) ≡ false)) → KSafe κ → Safe (binary_code d f T A (variable_of b) (cps E a) (cps E b) Γ p κ)
     binary_used f T A a b Γ p κ (Some q) ua ub i k bare h = ub Γ p _ i (λ z l o e. k z l (inr (⊎_elim (λ w. absurd (cc)) (λ w. w) (bare z l), o)) e) (λ y m j fy. safe_reify _ κ m _ j h (λ l r jj fl. record { by = safe_two y l fy fl }))
     binary_used binary_form.Get T A a b Γ p κ None ua ub i k bare h = safe_reify _ κ p _ i h (λ l m j fl. first_used binary_form.Get T A a b Γ m (Tail l) ua ub j k (tail_safe l fl))
     binary_used f T A a b Γ p κ None ua ub i k bare h = first_used f T A a b Γ p κ ua ub i k h
 
-    direct_bare : (f : BinaryForm) (a : Expression) (z : ℕ) → (called_directly f a ≡ None) ⊎ (among z (binary_binders f) ≡ false)
+    pub direct_bare : (f : BinaryForm) (a : Expression) (z : ℕ) → (called_directly f a ≡ None) ⊎ (among z (binary_binders f) ≡ false)
     direct_bare binary_form.Call a z = inr refl
     direct_bare _ a z = inl refl
 
