@@ -11,3 +11,4 @@ pub mod Fits
 pub mod TypeOf
 pub mod Limits
 pub mod Program
+pub mod code

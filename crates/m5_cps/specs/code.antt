@@ -1,0 +1,3 @@
+-- What the data of the code stand for.
+pub mod Types
+pub mod TypeRows
