@@ -1,5 +1,5 @@
 -- Types for which rows stand keep their numbers as rows are added.
-use Rattle.std.proofs.Common.{◌≡◌, ℕ, zero, suc, ◌+◌, ◌<◌, ◌≤◌, List, [], ◌∷◌, ◌++◌, length, Option, Some, None, slice_get, refl, sym, ap, subst, ◌∙◌, arith, length-append, append_assoc}
+use Rattle.std.proofs.Common.{◌≡◌, ℕ, zero, suc, ◌+◌, ◌<◌, List, [], ◌∷◌, ◌++◌, length, Some, slice_get, refl, sym, ap, subst, ◌∙◌, arith, append_assoc}
 use Rattle.m5_terms.specs.TypeExpression as type
 use Rattle.m5_terms.specs.TypeExpression.{TypeExpression}
 use Rattle.m5_cps.specs.declared.types.TypeRow.{TypeRow}

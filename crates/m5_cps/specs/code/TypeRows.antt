@@ -1,5 +1,5 @@
 -- The types for which rows stand.
-use Rattle.std.specs.Prelude.{ℕ, zero, suc, List, [], ◌∷◌, ◌++◌, length}
+use Rattle.std.specs.Prelude.{ℕ, suc, List, [], ◌∷◌, ◌++◌}
 use Rattle.m5_terms.specs.TypeExpression.{TypeExpression}
 use Rattle.m5_cps.specs.declared.types.TypeRow.{TypeRow}
 use Rattle.m5_cps.specs.code.Types.{row_type, IsRow}

@@ -1,4 +1,4 @@
-use Rattle.std.proofs.Common.{◌≡◌, ℕ, List, length, ap, ◌∙◌, sym, arith}
+use Rattle.std.proofs.Common.{◌≡◌, List, length, ap, ◌∙◌, sym, arith}
 use Rattle.m5_terms.specs.TypeExpression.{TypeExpression}
 use Rattle.m5_cps.proofs.Rows.{count}
 use Rattle.m5_cps.proofs.types.Types.count.Goals as goal

@@ -1,4 +1,4 @@
-use Rattle.std.proofs.Common.{◌≡◌, ℕ, List, [], ◌∷◌, ◌++◌, length, ap, subst, ◌∙◌, sym, arith}
+use Rattle.std.proofs.Common.{◌≡◌, List, [], ◌∷◌, ◌++◌, length, ap, subst, ◌∙◌, sym, arith}
 use Rattle.m5_terms.specs.TypeExpression.{TypeExpression}
 use Rattle.m5_cps.specs.code.Types.{row_type, IsRow}
 use Rattle.m5_cps.specs.code.TypeRows.{types_of, AreRows}

@@ -1,7 +1,6 @@
-use Rattle.std.proofs.Common.{◌≡◌, ◌<◌, ℕ, List, length, slice_get, Some, ap, subst, ◌∙◌, sym, arith}
+use Rattle.std.proofs.Common.{◌≡◌, ◌<◌, List, length, ap, subst, ◌∙◌, sym, arith}
 use Rattle.std.proofs.lemmas.Option.{slice_get_read}
 use Rattle.m5_terms.specs.TypeExpression.{TypeExpression}
-use Rattle.m5_cps.specs.code.Types.{row_type, IsRow}
 use Rattle.m5_cps.proofs.Rows.{RowAt, count, row_at}
 use Rattle.m5_cps.proofs.types.Types.row.Goals as goal
 
