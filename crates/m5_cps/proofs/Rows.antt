@@ -4,7 +4,8 @@ use Rattle.m5_terms.specs.TypeExpression as type
 use Rattle.m5_terms.specs.TypeExpression.{TypeExpression}
 use Rattle.m5_cps.specs.declared.types.TypeRow.{TypeRow}
 use Rattle.m5_cps.specs.declared.types.TypeRow.TheVariants as row
-use Rattle.m5_cps.specs.code.Types.{or_unit, type_in, row_type, IsRow}
+use Rattle.std.proofs.lemmas.Option.{slice_get_within}
+use Rattle.m5_cps.specs.code.Types.{or_unit, type_in, row_type, IsRow, Extends, HasType, HasRow, HaveTypes}
 use Rattle.m5_cps.specs.code.TypeRows.{types_after, types_of, AreRowsAfter, AreRows}
 use Rattle.m5_cps.proofs.Lists.{get_before, get_last, length_push}
 
@@ -81,3 +82,21 @@ at_after known (q ∷ rows) (suc k) r h e =
 
 pub row_at : (rows : List TypeRow) (k : ℕ) (r : TypeRow) → AreRows rows → slice_get rows k ≡ Some r → RowAt k (types_of rows) r
 row_at rows k r h e = subst (λ n. RowAt n (types_of rows) r) (let z : 0 + k ≡ k = omega arith in z) (at_after [] rows k r h e)
+
+-- one extension after the other
+more_after : (a b c : List TypeExpression) → Extends a b → Extends b c → Extends a c
+more_after a b c h k = (h.0 ++ k.0, k.1 ∙ ap (λ l. l ++ k.0) h.1 ∙ append_assoc a h.0 k.0)
+
+-- a type that is added behind its parts
+pub has_type : (old mid new : List TypeExpression) (r : TypeRow) (n : ℕ) (A : TypeExpression) → HasRow old mid r A → n ≡ length mid → new ≡ mid ++ row_type mid r ∷ [] → HasType old new n A
+has_type old mid new r n A h number e = record {
+  extends = more_after old mid new h.extends (row_type mid r ∷ [], e);
+  is = ap (λ k. slice_get new k) number ∙ ap (λ l. slice_get l (length mid)) e ∙ get_last mid (row_type mid r) [] ∙ ap Some h.is;
+}
+
+pub have_types : (old mid new : List TypeExpression) (n m : ℕ) (A B : TypeExpression) → HasType old mid n A → HasType mid new m B → HaveTypes old new n m A B
+have_types old mid new n m A B h k = record {
+  extends = more_after old mid new h.extends k.extends;
+  first = ap (λ l. slice_get l n) k.extends.1 ∙ get_before mid k.extends.0 n (slice_get_within mid n A h.is) ∙ h.is;
+  second = k.is;
+}

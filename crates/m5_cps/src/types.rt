@@ -1,9 +1,9 @@
 //! Types by number, each written once: its parts stand before it, so that types share their parts.
 
 ghost use Rattle.std.specs.Prelude.{◌≡◌, ◌<◌, [], ◌∷◌, ◌++◌, length, slice_get, Some, IfOk, OnOk, OnErr, IfErr};
-ghost use Rattle.m5_cps.specs.code.Types.{row_type, IsRow, Extends, IsTypeAt};
+ghost use Rattle.m5_cps.specs.code.Types.{row_type, IsRow, HasType, HasRow, HaveTypes};
 
-use m5_terms::types::{Shape, Ty, World};
+use m5_terms::types::{Shape, Ty, TypeBox, World};
 use std::alloc::{AllocError, Global};
 use std::marker::Model;
 
@@ -82,5 +82,66 @@ impl Types {
         ensures parts { IsRow number result }
     {
         self.rows[number]
+    }
+
+    /// Writes a type with its parts, and gives its number. After an error some of its parts may be written.
+    #[cycle(write_type)]
+    pub fn write(&mut self, ty: &Ty) -> Result<usize, AllocError>
+        ensures { IfOk result (λ n. HasType self.old self.new n ty.now) }
+    {
+        let row = self.row_of(ty)?;
+        let number = self.push(row)?;
+        Ok(number)
+    }
+
+    /// The row of a type, whose parts are written.
+    #[cycle(write_type)]
+    fn row_of(&mut self, ty: &Ty) -> Result<TypeRow, AllocError>
+        ensures { IfOk result (λ r. HasRow self.old self.new r ty.now) }
+    {
+        match &ty.shape {
+            Shape::Unit => Ok(TypeRow::Unit),
+            Shape::Bool => Ok(TypeRow::Bool),
+            Shape::Int => Ok(TypeRow::Int),
+            Shape::Str => Ok(TypeRow::Str),
+            Shape::Addr(world) => Ok(TypeRow::Address(*world)),
+            Shape::Prod(a, b) => {
+                let parts = self.write_both(a, b)?;
+                Ok(TypeRow::Product(parts.0, parts.1))
+            }
+            Shape::Sum(a, b) => {
+                let parts = self.write_both(a, b)?;
+                Ok(TypeRow::Sum(parts.0, parts.1))
+            }
+            Shape::Fun(a, b) => {
+                let parts = self.write_both(a, b)?;
+                Ok(TypeRow::Function(parts.0, parts.1))
+            }
+            Shape::List(a) => {
+                let part = self.write(a.get())?;
+                Ok(TypeRow::List(part))
+            }
+            Shape::Cell(a) => {
+                let part = self.write(a.get())?;
+                Ok(TypeRow::Cell(part))
+            }
+            Shape::Sham(a) => {
+                let part = self.write(a.get())?;
+                Ok(TypeRow::Sham(part))
+            }
+            Shape::At(a, world) => {
+                let part = self.write(a.get())?;
+                Ok(TypeRow::At(part, *world))
+            }
+        }
+    }
+
+    #[cycle(write_type)]
+    fn write_both(&mut self, a: &TypeBox, b: &TypeBox) -> Result<(usize, usize), AllocError>
+        ensures { IfOk result (λ p. HaveTypes self.old self.new p.0 p.1 a.now b.now) }
+    {
+        let first = self.write(a.get())?;
+        let second = self.write(b.get())?;
+        Ok((first, second))
     }
 }

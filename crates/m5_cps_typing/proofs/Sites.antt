@@ -26,6 +26,7 @@ use Rattle.m5_cps_typing.specs.Closures.{ClosureFits}
 use Rattle.m5_cps_typing.proofs.Worlds.{Env, holds_here, slots_put}
 use Rattle.m5_cps_typing.proofs.Deeds.{at_once, stop_fits, site_grown}
 use Rattle.m5_cps_typing.proofs.Asked.{asked_fits}
+use Rattle.m5_cps.specs.Machine.{opening_site, opening_threads}
 use Rattle.m5_cps.specs.Program.{entry_bound, block_bound, setting_of, IsFunction, IsFunctionBlock, IsProgram}
 use Rattle.m5_cps_typing.proofs.Runs.{closure_laws, run_fits}
 
@@ -191,3 +192,10 @@ module _ (F : Setting) (u : World) (site : u ≢ Any) (bare : (w : World) → F.
 -- of a program's blocks
 pub blocks_go_on : (B : Blocks) (L : CellTypes) (u : World) (s : Site Closure) → IsProgram B → u ≢ Any → SiteFits (ClosureFits (setting_of B)) (setting_of B) L u s → NextFits (ClosureFits (setting_of B)) (setting_of B) L u (site_next B u s)
 blocks_go_on B L u s d r t = next_fits (setting_of B) u r (λ w. refl) B (λ f b e. listed (setting_of B) B.functions f b d.functions e) L s t
+
+pub opening_fits : (B : Blocks) (u : World) → IsProgram B → u ≢ Any → SiteFits (ClosureFits (setting_of B)) (setting_of B) (λ w. []) u (opening_site (opening_threads B u))
+opening_fits B Home d r =
+    (((of unit, record { slots = no_slots; stands = inl refl; fits = d.main.fits; is = refl; filled = λ l m T e. absurd (cc) }, (unit, refl, refl, refl)), tt), tt, tt)
+opening_fits B Server d r = (tt, tt, tt)
+opening_fits B Panel d r = (tt, tt, tt)
+opening_fits B Any d r = absurd (r refl)

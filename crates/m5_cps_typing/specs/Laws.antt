@@ -1,5 +1,5 @@
 -- The laws of typed blocks.
-use Rattle.std.specs.Prelude.{◌≡◌, ◌≢◌, ◌<◌, ℕ, IsTrue, Some}
+use Rattle.std.specs.Prelude.{◌≡◌, ◌≢◌, ◌<◌, ℕ, IsTrue, [], Some}
 use Rattle.std.specs.List.{AllByRecursion as Each}
 use Rattle.m5_terms.specs.Expression.{Expression}
 use Rattle.m5_terms.specs.TypeExpression.{TypeExpression, address}
@@ -12,6 +12,7 @@ use Rattle.m5_typing.specs.Typing.{Typed}
 use Rattle.m5_cps.specs.Entries.{of, Mode}
 use Rattle.m5_cps.specs.Blocks.{ask, send, Code, ends, Blocks}
 use Rattle.m5_cps.specs.Running.{Site, uses, site_next}
+use Rattle.m5_cps.specs.Machine.{opening_site, opening_threads}
 use Rattle.m5_cps.specs.Slots.{slot, Slots, HasType}
 use Rattle.m5_cps.specs.Fits.{Fits}
 use Rattle.m5_cps.specs.Program.{IsProgram, setting_of}
@@ -27,6 +28,12 @@ TypedBlocksGoOn =
     (B : Blocks) (L : CellTypes) (u : World) (s : Site) → IsProgram B → u ≢ Any →
     SiteFits (ClosureFits (setting_of B)) (setting_of B) L u s →
     NextFits (ClosureFits (setting_of B)) (setting_of B) L u (site_next B u s)
+
+-- each site of a program's blocks begins typed, where no cell is made yet
+abbrev pub OpeningIsTyped : Type 0
+OpeningIsTyped =
+    (B : Blocks) (u : World) → IsProgram B → u ≢ Any →
+    SiteFits (ClosureFits (setting_of B)) (setting_of B) (λ w. []) u (opening_site (opening_threads B u))
 
 -- going through a typed node finds its type
 abbrev pub TypesAreFound : Type 0

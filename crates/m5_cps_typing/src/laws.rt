@@ -1,10 +1,15 @@
 //! The laws of typed blocks, each on a function that does nothing.
 
-ghost use Rattle.m5_cps_typing.specs.Laws.{TypedBlocksGoOn, TypesAreFound, RowsFit, UsedSlotsAreTyped, AsksAtItsWorld, SendsElsewhere, SendsFromOneWorld};
+ghost use Rattle.m5_cps_typing.specs.Laws.{TypedBlocksGoOn, OpeningIsTyped, TypesAreFound, RowsFit, UsedSlotsAreTyped, AsksAtItsWorld, SendsElsewhere, SendsFromOneWorld};
 
 /// A typed site of blocks goes on typed, asks typed asks and is never wrong.
 pub fn typed_blocks_go_on_holds()
     ensures { TypedBlocksGoOn }
+{}
+
+/// Each site begins typed.
+pub fn opening_is_typed_holds()
+    ensures { OpeningIsTyped }
 {}
 
 /// The type of a typed node is found by going through the node.

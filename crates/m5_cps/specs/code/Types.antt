@@ -1,5 +1,5 @@
 -- What a type by number is.
-use Rattle.std.specs.Prelude.{◌≡◌, ◌<◌, ℕ, List, ◌++◌, Option, Some, None, slice_get}
+use Rattle.std.specs.Prelude.{◌≡◌, ◌<◌, ℕ, List, ◌++◌, length, Option, Some, None, slice_get}
 use Rattle.m5_terms.specs.TypeExpression as type
 use Rattle.m5_terms.specs.TypeExpression.{TypeExpression}
 use Rattle.m5_cps.specs.declared.types.TypeRow.{TypeRow}
@@ -42,5 +42,18 @@ IsRow n _ = Unit {0}
 abbrev pub Extends : List TypeExpression → List TypeExpression → Type 0
 Extends old new = (more : List TypeExpression) × (new ≡ old ++ more)
 
-abbrev pub IsTypeAt : List TypeExpression → ℕ → TypeExpression → Type 0
-IsTypeAt types n A = slice_get types n ≡ Some A
+-- the type is written, by its number
+pub record HasType (old new : List TypeExpression) (n : ℕ) (A : TypeExpression) : Type 0 where
+  pub extends : Extends old new
+  pub is : slice_get new n ≡ Some A
+
+pub record HaveTypes (old new : List TypeExpression) (n m : ℕ) (A B : TypeExpression) : Type 0 where
+  pub extends : Extends old new
+  pub first : slice_get new n ≡ Some A
+  pub second : slice_get new m ≡ Some B
+
+-- the parts of a type are written, and the row is that of the type
+pub record HasRow (old new : List TypeExpression) (r : TypeRow) (A : TypeExpression) : Type 0 where
+  pub extends : Extends old new
+  pub parts : IsRow (length new) r
+  pub is : row_type new r ≡ A
