@@ -41,8 +41,9 @@ use Rattle.m5_cps.specs.Values.{Wrap, Join, atom, wrap, join, closed, enter, put
 use Rattle.m5_cps.specs.Values as value
 use Rattle.m5_cps.specs.Units.{text_units, leaf_units, closure_units}
 use Rattle.m5_terms.specs.Size.{text_size}
-use Rattle.m5_cps.specs.Deeds.{Ran, ends, taking, taking_some}
-use Rattle.m5_cps.specs.Running.{Closure, over, Value, Thread, Item, Site, run, captured}
+use Rattle.m5_cps.specs.Deeds.{Ran, ends, taking, taking_some, stops_full}
+use Rattle.m5_cps.specs.Captured.{Closure, over, Value, Thread, Item, Site, captured}
+use Rattle.m5_cps.specs.Running.{run}
 use Rattle.m5_cps_convert.specs.Scopes.{Scope, bind, in_block, in_arm, in_sham, fn_scope, rec_scope}
 use Rattle.m5_cps_convert.specs.Continuations.{Tail, Then, apply, reify, variable_code, body_code, goal_code, start_code}
 use Rattle.m5_cps_convert.specs.Convert.{cps}
@@ -55,7 +56,6 @@ use Rattle.m5_cps_convert.specs.Reading.{setting, wrapped, joined, IsAtom, Reads
 use Rattle.m5_cps_convert.specs.Threads.{IsEntered, ReadsThread, ReadsThreads, ReadsValues, ReadsItem, ReadsState}
 use Rattle.m5_meaning.specs.Reduction.{called_extern, unit_or, text_value, unit_value}
 use Rattle.m5_cps.specs.Asks.{asked, after_done, after_get_text, after_read, adds_handler}
-use Rattle.m5_cps.specs.Deeds.{stops_full}
 use Rattle.m5_cps_convert.proofs.Meets.{W, src, ticked, Tied, tied_by, step_pays, Meets}
 use Rattle.m5_cps_convert.proofs.Straight.{values_long}
 use Rattle.m5_cps_convert.proofs.Heads.{Head, atoms, pairs, head_of}

@@ -35,15 +35,16 @@ use Rattle.m5_meaning.specs.Site as meaning
 use Rattle.m5_meaning.specs.Step.{step_weight, thread_of, outcome}
 use Rattle.m5_meaning.specs.Step as meaning_step
 use Rattle.m5_meaning.specs.Reduction as reduction
-use Rattle.m5_cps.specs.Entries.{SlotType, of, takes, Mode, only, world_of, Entry, by_value, by_call}
+use Rattle.m5_cps.specs.Entries.{SlotType, of, takes, Mode, only, world_of, Entry, by_value, by_call, everywhere}
 use Rattle.m5_cps.specs.Blocks.{Code, straight, closure, test}
 use Rattle.m5_cps.specs.Blocks as block
 use Rattle.m5_cps.specs.Values.{Wrap, Join, atom, wrap, join, closed, enter, put}
 use Rattle.m5_cps.specs.Values as value
-use Rattle.m5_cps.specs.Units.{text_units, leaf_units, closure_units}
+use Rattle.m5_cps.specs.Units.{text_units, leaf_units, closure_units, array_units, thread_units, begun_units}
 use Rattle.m5_terms.specs.Size.{text_size}
-use Rattle.m5_cps.specs.Deeds.{Ran, ends, taking, taking_some}
-use Rattle.m5_cps.specs.Running.{Closure, over, Value, Thread, Item, Site, run, captured}
+use Rattle.m5_cps.specs.Deeds.{Ran, ends, taking, taking_some, stops_full, spawned}
+use Rattle.m5_cps.specs.Captured.{Closure, over, Value, Thread, Item, Site, captured, value_units}
+use Rattle.m5_cps.specs.Running.{run, finish}
 use Rattle.m5_cps_convert.specs.Scopes.{Scope, bind, in_block, in_arm, in_sham, fn_scope, rec_scope}
 use Rattle.m5_cps_convert.specs.Continuations.{Tail, Then, apply, reify, variable_code, body_code, goal_code, start_code}
 use Rattle.m5_cps_convert.specs.Convert.{cps}
@@ -56,11 +57,7 @@ use Rattle.m5_cps_convert.specs.Reading.{setting, wrapped, joined, IsAtom, Reads
 use Rattle.m5_cps_convert.specs.Threads.{IsEntered, ReadsThread, ReadsThreads, ReadsValues, ReadsItem, ReadsState}
 use Rattle.m5_terms.specs.Size.{node_size}
 use Rattle.m5_meaning.specs.Reduction.{unit_value, text_value}
-use Rattle.m5_cps.specs.Entries.{everywhere}
-use Rattle.m5_cps.specs.Units.{array_units, thread_units, begun_units}
-use Rattle.m5_cps.specs.Deeds.{stops_full, spawned}
 use Rattle.m5_cps.specs.Asks.{handler_thread, handler_threads, begun, begun_by, after_take}
-use Rattle.m5_cps.specs.Running.{finish, value_units}
 use Rattle.m5_cps_convert.proofs.Slots.{In, put_grows, put_has, frames_on}
 use Rattle.m5_cps_convert.proofs.Meets.{W, rest, src, ticked, Tied, step_pays, lent, Meets, back, Resumes, Evals}
 use Rattle.m5_cps_convert.proofs.Weights.{least}

@@ -35,14 +35,15 @@ use Rattle.m5_meaning.specs.Step.{step_weight, thread_of, outcome}
 use Rattle.m5_meaning.specs.Step as meaning_step
 use Rattle.m5_meaning.specs.Reduction as reduction
 use Rattle.m5_cps.specs.Entries.{SlotType, of, takes, Mode, only, world_of, Entry, by_value, by_call}
-use Rattle.m5_cps.specs.Blocks.{Code, straight, closure, test}
+use Rattle.m5_cps.specs.Blocks.{Code, straight, closure, test, if_true, if_left, if_nil}
 use Rattle.m5_cps.specs.Blocks as block
-use Rattle.m5_cps.specs.Values.{Wrap, Join, atom, wrap, join, closed, enter, put}
+use Rattle.m5_cps.specs.Values.{Wrap, Join, atom, wrap, join, closed, enter, put, put_all, filled_by}
 use Rattle.m5_cps.specs.Values as value
 use Rattle.m5_cps.specs.Units.{text_units, leaf_units, closure_units}
 use Rattle.m5_terms.specs.Size.{text_size}
-use Rattle.m5_cps.specs.Deeds.{Ran, ends, taking, taking_some}
-use Rattle.m5_cps.specs.Running.{Closure, over, Value, Thread, Item, Site, run, captured}
+use Rattle.m5_cps.specs.Deeds.{Ran, ends, taking, taking_some, tested}
+use Rattle.m5_cps.specs.Captured.{Closure, over, Value, Thread, Item, Site, captured}
+use Rattle.m5_cps.specs.Running.{run}
 use Rattle.m5_cps_convert.specs.Scopes.{Scope, bind, in_block, in_arm, in_sham, fn_scope, rec_scope}
 use Rattle.m5_cps_convert.specs.Continuations.{Tail, Then, apply, reify, variable_code, body_code, goal_code, start_code}
 use Rattle.m5_cps_convert.specs.Convert.{cps}
@@ -54,10 +55,7 @@ use Rattle.m5_cps_convert.specs.Narrow.{Narrow}
 use Rattle.m5_cps_convert.specs.Reading.{setting, wrapped, joined, IsAtom, Reads}
 use Rattle.m5_cps_convert.specs.Threads.{IsEntered, ReadsThread, ReadsThreads, ReadsValues, ReadsItem, ReadsState}
 use Rattle.m5_typing.specs.Context.{local, valid}
-use Rattle.m5_cps.specs.TypeOf.{first_of, second_of, content_of}
-use Rattle.m5_cps.specs.Blocks.{if_true, if_left, if_nil}
-use Rattle.m5_cps.specs.Deeds.{tested}
-use Rattle.m5_cps.specs.Values.{put_all, filled_by}
+use Rattle.m5_cps.specs.TypeParts.{first_of, second_of, content_of}
 use Rattle.m5_cps_convert.specs.Continuations.{arm_code}
 use Rattle.m5_cps_convert.specs.Convert.{type_in}
 use Rattle.m5_cps_convert.proofs.Substitutions.{AllFixed, body_put}

@@ -39,10 +39,11 @@ use Rattle.m5_cps.specs.Blocks.{Code, straight, closure, test}
 use Rattle.m5_cps.specs.Blocks as block
 use Rattle.m5_cps.specs.Values.{Wrap, Join, atom, wrap, join, closed, enter, put}
 use Rattle.m5_cps.specs.Values as value
-use Rattle.m5_cps.specs.Units.{text_units, leaf_units, closure_units}
+use Rattle.m5_cps.specs.Units.{text_units, leaf_units, closure_units, thread_units}
 use Rattle.m5_terms.specs.Size.{text_size}
 use Rattle.m5_cps.specs.Deeds.{Ran, ends, taking, taking_some}
-use Rattle.m5_cps.specs.Running.{Closure, over, Value, Thread, Item, Site, run, captured}
+use Rattle.m5_cps.specs.Captured.{Closure, over, Value, Thread, Item, Site, captured, value_units}
+use Rattle.m5_cps.specs.Running.{run}
 use Rattle.m5_cps_convert.specs.Scopes.{Scope, bind, in_block, in_arm, in_sham, fn_scope, rec_scope}
 use Rattle.m5_cps_convert.specs.Continuations.{Tail, Then, apply, reify, variable_code, body_code, goal_code, start_code}
 use Rattle.m5_cps_convert.specs.Convert.{cps}
@@ -54,8 +55,6 @@ use Rattle.m5_cps_convert.specs.Narrow.{Narrow}
 use Rattle.m5_cps_convert.specs.Reading.{setting, wrapped, joined, IsAtom, Reads}
 use Rattle.m5_cps_convert.specs.Threads.{IsEntered, ReadsThread, ReadsThreads, ReadsValues, ReadsItem, ReadsState}
 use Rattle.m5_cps.specs.Asks.{sent, after_sent}
-use Rattle.m5_cps.specs.Units.{thread_units}
-use Rattle.m5_cps.specs.Running.{value_units}
 use Rattle.m5_cps_convert.proofs.Slots.{In}
 use Rattle.m5_cps_convert.proofs.Meets.{W, rest, src, ticked, Tied, step_pays, behind, Meets, Resumes}
 use Rattle.m5_cps_convert.proofs.Calls.{front_reads}

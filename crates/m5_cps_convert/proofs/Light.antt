@@ -43,7 +43,8 @@ use Rattle.m5_cps.specs.Values as value
 use Rattle.m5_cps.specs.Units.{text_units, leaf_units, closure_units}
 use Rattle.m5_terms.specs.Size.{text_size}
 use Rattle.m5_cps.specs.Deeds.{Ran, ends, taking, taking_some}
-use Rattle.m5_cps.specs.Running.{Closure, over, Value, Thread, Item, Site, run, captured}
+use Rattle.m5_cps.specs.Captured.{Closure, over, Value, Thread, Item, Site, captured, value_units, sum_used, uses}
+use Rattle.m5_cps.specs.Running.{run}
 use Rattle.m5_cps_convert.specs.Scopes.{Scope, bind, in_block, in_arm, in_sham, fn_scope, rec_scope}
 use Rattle.m5_cps_convert.specs.Continuations.{Tail, Then, apply, reify, variable_code, body_code, goal_code, start_code}
 use Rattle.m5_cps_convert.specs.Convert.{cps}
@@ -57,7 +58,6 @@ use Rattle.m5_cps_convert.specs.Threads.{IsEntered, ReadsThread, ReadsThreads, R
 use Rattle.m5_terms.specs.Size.{node_size, frame_size, frames_size}
 use Rattle.m5_terms.specs.Substitution.{among, unary_binders, binary_binders, second_binders, third_binders}
 use Rattle.m5_meaning.specs.Parts.{parts, fill}
-use Rattle.m5_cps.specs.Running.{value_units, sum_used, uses}
 use Rattle.m5_cps_convert.proofs.Occurrences.{hidden, slots_of, shown, is_among, size_least, cost, AreLight, hidden_light, all_total, spare_total}
 use Rattle.m5_cps_convert.proofs.StaticUses.{static_slots, static_safe}
 use Rattle.m5_cps_convert.specs.Forms.{variable_of}

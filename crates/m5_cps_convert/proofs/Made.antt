@@ -41,8 +41,9 @@ use Rattle.m5_cps.specs.Values.{Wrap, Join, atom, wrap, join, closed, enter, put
 use Rattle.m5_cps.specs.Values as value
 use Rattle.m5_cps.specs.Units.{text_units, leaf_units, closure_units}
 use Rattle.m5_terms.specs.Size.{text_size}
-use Rattle.m5_cps.specs.Deeds.{Ran, ends, taking, taking_some}
-use Rattle.m5_cps.specs.Running.{Closure, over, Value, Thread, Item, Site, run, captured}
+use Rattle.m5_cps.specs.Deeds.{Ran, ends, taking, taking_some, did, did_taking, stops_full, loaded, stored}
+use Rattle.m5_cps.specs.Captured.{Closure, over, Value, Thread, Item, Site, captured}
+use Rattle.m5_cps.specs.Running.{run}
 use Rattle.m5_cps_convert.specs.Scopes.{Scope, bind, in_block, in_arm, in_sham, fn_scope, rec_scope}
 use Rattle.m5_cps_convert.specs.Continuations.{Tail, Then, apply, reify, variable_code, body_code, goal_code, start_code}
 use Rattle.m5_cps_convert.specs.Convert.{cps}
@@ -54,7 +55,7 @@ use Rattle.m5_cps_convert.specs.Narrow.{Narrow}
 use Rattle.m5_cps_convert.specs.Reading.{setting, wrapped, joined, IsAtom, Reads}
 use Rattle.m5_cps_convert.specs.Threads.{IsEntered, ReadsThread, ReadsThreads, ReadsValues, ReadsItem, ReadsState}
 use Rattle.m5_meaning.specs.Reduction.{Reduced, reduced, reduced_unary, reduced_binary, text_value, unit_value}
-use Rattle.m5_cps.specs.Deeds.{Made, gives, makes_text, makes_cell, loads, stores, fails, did, did_taking, stops_full, loaded, stored, made_by_one, made_by_two, one_units, two_units}
+use Rattle.m5_cps.specs.Made.{Made, gives, makes_text, makes_cell, loads, stores, fails, made_by_one, made_by_two, one_units, two_units}
 use Rattle.m5_cps_convert.specs.Forms.{binary_end}
 use Rattle.m5_cps_convert.proofs.Slots.{In}
 use Rattle.m5_cps_convert.proofs.Meets.{W, code, rest, src, ticked, Tied, step_pays, Weighs, Meets, back, Resumes, Evals}

@@ -16,7 +16,8 @@ use Rattle.m5_meaning.specs.Step as meaning_step
 use Rattle.m5_cps.specs.Blocks.{Code}
 use Rattle.m5_cps.specs.Values.{SiteNext}
 use Rattle.m5_cps.specs.Deeds.{Point, Ran, makes, ends}
-use Rattle.m5_cps.specs.Running.{Closure, Value, Item, Site, run}
+use Rattle.m5_cps.specs.Captured.{Closure, Value, Item, Site}
+use Rattle.m5_cps.specs.Running.{run}
 use Rattle.m5_cps_convert.specs.Scopes.{Scope}
 use Rattle.m5_cps_convert.specs.Continuations.{apply}
 use Rattle.m5_cps_convert.specs.Convert.{cps}

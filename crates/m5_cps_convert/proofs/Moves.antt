@@ -35,14 +35,15 @@ use Rattle.m5_meaning.specs.Step.{step_weight, thread_of, outcome}
 use Rattle.m5_meaning.specs.Step as meaning_step
 use Rattle.m5_meaning.specs.Reduction as reduction
 use Rattle.m5_cps.specs.Entries.{SlotType, of, takes, Mode, only, world_of, Entry, by_value, by_call}
-use Rattle.m5_cps.specs.Blocks.{Code, straight, closure, test}
+use Rattle.m5_cps.specs.Blocks.{Code, straight, closure, test, constant, go, if_here}
 use Rattle.m5_cps.specs.Blocks as block
-use Rattle.m5_cps.specs.Values.{Wrap, Join, atom, wrap, join, closed, enter, put}
+use Rattle.m5_cps.specs.Values.{Wrap, Join, atom, wrap, join, closed, enter, put, put_all, filled_by}
 use Rattle.m5_cps.specs.Values as value
 use Rattle.m5_cps.specs.Units.{text_units, leaf_units, closure_units}
 use Rattle.m5_terms.specs.Size.{text_size}
-use Rattle.m5_cps.specs.Deeds.{Ran, ends, taking, taking_some}
-use Rattle.m5_cps.specs.Running.{Closure, over, Value, Thread, Item, Site, run, captured}
+use Rattle.m5_cps.specs.Deeds.{Ran, ends, taking, taking_some, tested}
+use Rattle.m5_cps.specs.Captured.{Closure, over, Value, Thread, Item, Site, captured, value_units}
+use Rattle.m5_cps.specs.Running.{run}
 use Rattle.m5_cps_convert.specs.Scopes.{Scope, bind, in_block, in_arm, in_sham, fn_scope, rec_scope}
 use Rattle.m5_cps_convert.specs.Continuations.{Tail, Then, apply, reify, variable_code, body_code, goal_code, start_code}
 use Rattle.m5_cps_convert.specs.Convert.{cps}
@@ -56,12 +57,8 @@ use Rattle.m5_cps_convert.specs.Threads.{IsEntered, ReadsThread, ReadsThreads, R
 use Rattle.m5_terms.specs.TypeExpression.{same_world}
 use Rattle.m5_terms.specs.Size.{node_size, frames_size}
 use Rattle.m5_meaning.specs.Reduction.{got}
-use Rattle.m5_cps.specs.Blocks.{constant, go, if_here}
-use Rattle.m5_cps.specs.Values.{put_all, filled_by}
-use Rattle.m5_cps.specs.Deeds.{tested}
 use Rattle.m5_cps.specs.Asks.{sent}
-use Rattle.m5_cps.specs.TypeOf.{place_of}
-use Rattle.m5_cps.specs.Running.{value_units}
+use Rattle.m5_cps.specs.TypeParts.{place_of}
 use Rattle.m5_cps_convert.specs.Forms.{back_code, away_with_goal, away_with_value, get_value, get_goal, get_variable, variable_of}
 use Rattle.m5_cps_convert.specs.Convert.{type_in}
 use Rattle.m5_cps_convert.specs.Slots.{WaitsFirst}

@@ -44,7 +44,8 @@ use Rattle.m5_cps.specs.Values as value
 use Rattle.m5_cps.specs.Units.{text_units, leaf_units, closure_units}
 use Rattle.m5_terms.specs.Size.{text_size}
 use Rattle.m5_cps.specs.Deeds.{Ran, ends, taking, taking_some}
-use Rattle.m5_cps.specs.Running.{Closure, over, Value, Thread, Item, Site, run, captured}
+use Rattle.m5_cps.specs.Captured.{Closure, over, Value, Thread, Item, Site, captured}
+use Rattle.m5_cps.specs.Running.{run}
 use Rattle.m5_cps_convert.specs.Scopes.{Scope, bind, in_block, in_arm, in_sham, fn_scope, rec_scope}
 use Rattle.m5_cps_convert.specs.Continuations.{Tail, Then, apply, reify, variable_code, body_code, goal_code, start_code}
 use Rattle.m5_cps_convert.specs.Convert.{cps}
@@ -58,7 +59,7 @@ use Rattle.m5_cps_convert.specs.Threads.{IsEntered, ReadsThread, ReadsThreads, R
 use Rattle.m5_terms.specs.TypeExpression.{same_world}
 use Rattle.m5_meaning.specs.Numbers.{quotient}
 use Rattle.m5_meaning.specs.Reduction.{reduced_unary, unit_or}
-use Rattle.m5_cps.specs.Deeds.{Made, gives, makes_text, makes_cell, loads, stores, fails, at_cell, divided, made_by_one, one_units}
+use Rattle.m5_cps.specs.Made.{Made, gives, makes_text, makes_cell, loads, stores, fails, at_cell, divided, made_by_one, one_units}
 use Rattle.m5_cps_convert.proofs.Slots.{fits_on}
 use Rattle.m5_cps_convert.proofs.Meets.{W, code, rest, src, ticked, step_pays, behind, back, Resumes, Evals}
 use Rattle.m5_cps_convert.proofs.Heads.{Head, atoms, pairs, head_of, reads_of}

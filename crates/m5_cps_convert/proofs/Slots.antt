@@ -13,7 +13,7 @@ use Rattle.m5_typing.specs.Program.{ProgramTerm}
 use Rattle.m5_cps.specs.Entries.{by_value, by_call}
 use Rattle.m5_cps.specs.Values.{Wrap, Join, atom, wrap, join, closed, put}
 use Rattle.m5_cps.specs.Values as value
-use Rattle.m5_cps.specs.Running.{over, Value}
+use Rattle.m5_cps.specs.Captured.{over, Value}
 use Rattle.m5_cps_convert.specs.Scopes.{Scope, bind}
 use Rattle.m5_cps_convert.specs.Closing.{Values}
 use Rattle.m5_cps_convert.specs.Statics.{Static, STop, STail, SBack, SFirst, SSecond, SArgument}

@@ -41,8 +41,9 @@ use Rattle.m5_cps.specs.Values.{Wrap, Join, atom, wrap, join, closed, enter, put
 use Rattle.m5_cps.specs.Values as value
 use Rattle.m5_cps.specs.Units.{text_units, leaf_units, closure_units}
 use Rattle.m5_terms.specs.Size.{text_size}
-use Rattle.m5_cps.specs.Deeds.{Ran, ends, taking, taking_some}
-use Rattle.m5_cps.specs.Running.{Closure, over, Value, Thread, Item, Site, run, captured}
+use Rattle.m5_cps.specs.Deeds.{Ran, ends, taking, taking_some, stops_full, after_stop}
+use Rattle.m5_cps.specs.Captured.{Closure, over, Value, Thread, Item, Site, captured}
+use Rattle.m5_cps.specs.Running.{run}
 use Rattle.m5_cps_convert.specs.Scopes.{Scope, bind, in_block, in_arm, in_sham, fn_scope, rec_scope}
 use Rattle.m5_cps_convert.specs.Continuations.{Tail, Then, apply, reify, variable_code, body_code, goal_code, start_code}
 use Rattle.m5_cps_convert.specs.Convert.{cps}
@@ -54,7 +55,6 @@ use Rattle.m5_cps_convert.specs.Narrow.{Narrow}
 use Rattle.m5_cps_convert.specs.Reading.{setting, wrapped, joined, IsAtom, Reads}
 use Rattle.m5_cps_convert.specs.Threads.{IsEntered, ReadsThread, ReadsThreads, ReadsValues, ReadsItem, ReadsState}
 use Rattle.m5_terms.specs.declared.ask.Cause.TheVariants.{Table}
-use Rattle.m5_cps.specs.Deeds.{stops_full, after_stop}
 use Rattle.m5_cps_convert.proofs.Meets.{Tied, Meets, src}
 
 pub values_snoc : (P : Program) (cs : List Value) (vs : List Expression) (c : Value) (v : Expression) → ReadsValues P cs vs → Reads P c (SVal v) → ReadsValues P (cs ++ c ∷ []) (vs ++ v ∷ [])

@@ -2,7 +2,7 @@
 use Rattle.std.proofs.Common.{◌≡◌, ℕ, zero, suc, ◌+◌, ◌≤◌, ◌<◌, List, [], ◌∷◌, ◌++◌, length, Bool, true, false, IsTrue, refl, sym, ap, arith, if◌then◌else◌, ◌==◌, ◌||◌, true≢false}
 use Rattle.m5_terms.specs.Substitution.{among}
 use Rattle.m5_cps.specs.Blocks.{Code}
-use Rattle.m5_cps.specs.Running.{uses, sum_used, captured}
+use Rattle.m5_cps.specs.Captured.{uses, sum_used, captured}
 
 -- over the numbers before n that the test holds of
 abbrev sum_where : (ℕ → Bool) → (ℕ → ℕ) → ℕ → ℕ

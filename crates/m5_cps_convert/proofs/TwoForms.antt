@@ -43,7 +43,8 @@ use Rattle.m5_cps.specs.Values as value
 use Rattle.m5_cps.specs.Units.{text_units, leaf_units, closure_units}
 use Rattle.m5_terms.specs.Size.{text_size}
 use Rattle.m5_cps.specs.Deeds.{Ran, ends, taking, taking_some}
-use Rattle.m5_cps.specs.Running.{Closure, over, Value, Thread, Item, Site, run, captured}
+use Rattle.m5_cps.specs.Captured.{Closure, over, Value, Thread, Item, Site, captured}
+use Rattle.m5_cps.specs.Running.{run}
 use Rattle.m5_cps_convert.specs.Scopes.{Scope, bind, in_block, in_arm, in_sham, fn_scope, rec_scope}
 use Rattle.m5_cps_convert.specs.Continuations.{Tail, Then, apply, reify, variable_code, body_code, goal_code, start_code}
 use Rattle.m5_cps_convert.specs.Convert.{cps}
@@ -59,7 +60,7 @@ use Rattle.m5_terms.specs.declared.types.Op.{Op}
 use Rattle.m5_terms.specs.declared.types.Op.TheVariants as op
 use Rattle.m5_typing.specs.Value.{IsValueForm}
 use Rattle.m5_meaning.specs.Reduction.{reduced_binary}
-use Rattle.m5_cps.specs.Deeds.{Made, gives, makes_text, makes_cell, loads, stores, fails, at_cell, operated, made_by_two, two_units}
+use Rattle.m5_cps.specs.Made.{Made, gives, makes_text, makes_cell, loads, stores, fails, at_cell, operated, made_by_two, two_units}
 use Rattle.m5_cps_convert.proofs.Meets.{Evals, Resumes}
 use Rattle.m5_cps_convert.proofs.Heads.{Head, atoms, head_of, reads_of}
 use Rattle.m5_cps_convert.proofs.Parts.{begins, goes_second, stands_here}

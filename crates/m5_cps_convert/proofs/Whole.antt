@@ -37,12 +37,13 @@ use Rattle.m5_meaning.specs.Reduction as reduction
 use Rattle.m5_cps.specs.Entries.{SlotType, of, takes, Mode, only, world_of, Entry, by_value, by_call}
 use Rattle.m5_cps.specs.Blocks.{Code, straight, closure, test}
 use Rattle.m5_cps.specs.Blocks as block
-use Rattle.m5_cps.specs.Values.{Wrap, Join, atom, wrap, join, closed, enter, put}
+use Rattle.m5_cps.specs.Values.{Wrap, Join, atom, wrap, join, closed, enter, put, SiteNext}
 use Rattle.m5_cps.specs.Values as value
 use Rattle.m5_cps.specs.Units.{text_units, leaf_units, closure_units}
 use Rattle.m5_terms.specs.Size.{text_size}
-use Rattle.m5_cps.specs.Deeds.{Ran, ends, taking, taking_some}
-use Rattle.m5_cps.specs.Running.{Closure, over, Value, Thread, Item, Site, run, captured}
+use Rattle.m5_cps.specs.Deeds.{Ran, ends, taking, taking_some, makes, stops_full}
+use Rattle.m5_cps.specs.Captured.{Closure, over, Value, Thread, Item, Site, captured}
+use Rattle.m5_cps.specs.Running.{run, entered_by, called_by, resolved, started, front, ran, last, site_next}
 use Rattle.m5_cps_convert.specs.Scopes.{Scope, bind, in_block, in_arm, in_sham, fn_scope, rec_scope}
 use Rattle.m5_cps_convert.specs.Continuations.{Tail, Then, apply, reify, variable_code, body_code, goal_code, start_code}
 use Rattle.m5_cps_convert.specs.Convert.{cps}
@@ -53,9 +54,6 @@ use Rattle.m5_cps_convert.specs.Slots.{SVal, SKont, SGoal, SStart, Has, FitsAt, 
 use Rattle.m5_cps_convert.specs.Narrow.{Narrow}
 use Rattle.m5_cps_convert.specs.Reading.{setting, wrapped, joined, IsAtom, Reads}
 use Rattle.m5_cps_convert.specs.Threads.{IsEntered, ReadsThread, ReadsThreads, ReadsValues, ReadsItem, ReadsState}
-use Rattle.m5_cps.specs.Values.{SiteNext}
-use Rattle.m5_cps.specs.Deeds.{makes, stops_full}
-use Rattle.m5_cps.specs.Running.{entered_by, called_by, resolved, started, front, ran, last, site_next}
 use Rattle.m5_cps_convert.specs.Convert.{program_blocks}
 use Rattle.m5_cps_convert.specs.Threads.{ReadsSite, StoppedToo}
 use Rattle.m5_cps_convert.proofs.Slots.{In}

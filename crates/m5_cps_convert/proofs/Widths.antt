@@ -35,15 +35,16 @@ use Rattle.m5_meaning.specs.Site as meaning
 use Rattle.m5_meaning.specs.Step.{step_weight, thread_of, outcome}
 use Rattle.m5_meaning.specs.Step as meaning_step
 use Rattle.m5_meaning.specs.Reduction as reduction
-use Rattle.m5_cps.specs.Entries.{SlotType, of, takes, Mode, only, world_of, Entry, by_value, by_call}
-use Rattle.m5_cps.specs.Blocks.{Code, straight, closure, test}
+use Rattle.m5_cps.specs.Entries.{SlotType, of, takes, Mode, only, world_of, Entry, by_value, by_call, entry_filled}
+use Rattle.m5_cps.specs.Blocks.{Code, straight, closure, test, Test, if_here, constant, go, call, ask, send}
 use Rattle.m5_cps.specs.Blocks as block
 use Rattle.m5_cps.specs.Values.{Wrap, Join, atom, wrap, join, closed, enter, put}
 use Rattle.m5_cps.specs.Values as value
 use Rattle.m5_cps.specs.Units.{text_units, leaf_units, closure_units}
 use Rattle.m5_terms.specs.Size.{text_size}
 use Rattle.m5_cps.specs.Deeds.{Ran, ends, taking, taking_some}
-use Rattle.m5_cps.specs.Running.{Closure, over, Value, Thread, Item, Site, run, captured}
+use Rattle.m5_cps.specs.Captured.{Closure, over, Value, Thread, Item, Site, captured}
+use Rattle.m5_cps.specs.Running.{run}
 use Rattle.m5_cps_convert.specs.Scopes.{Scope, bind, in_block, in_arm, in_sham, fn_scope, rec_scope}
 use Rattle.m5_cps_convert.specs.Continuations.{Tail, Then, apply, reify, variable_code, body_code, goal_code, start_code}
 use Rattle.m5_cps_convert.specs.Convert.{cps}
@@ -57,9 +58,7 @@ use Rattle.m5_cps_convert.specs.Threads.{IsEntered, ReadsThread, ReadsThreads, R
 use Rattle.m5_terms.specs.Substitution.{among, unary_binders, binary_binders, second_binders, third_binders}
 use Rattle.m5_typing.specs.Context.{Setting, local, valid}
 use Rattle.m5_typing.specs.Width.{term_width}
-use Rattle.m5_cps.specs.Blocks.{Test, if_here, constant, go, call, ask, send}
-use Rattle.m5_cps.specs.TypeOf.{first_of, second_of, content_of, place_of}
-use Rattle.m5_cps.specs.Entries.{entry_filled}
+use Rattle.m5_cps.specs.TypeParts.{first_of, second_of, content_of, place_of}
 use Rattle.m5_cps_convert.specs.Scopes.{VariableSlots}
 use Rattle.m5_cps_convert.specs.Continuations.{Continuation, constant_code, arm_code, thread_end}
 use Rattle.m5_cps_convert.specs.Forms.{unary_rest, binary_end, back_code, away_with_goal, away_with_value, get_value, get_goal, get_variable, get_code, variable_of}

@@ -14,7 +14,8 @@ use Rattle.m5_typing.specs.Context.{local, valid, Setting}
 use Rattle.m5_typing.specs.Program.{ProgramTerm, setting_of}
 use Rattle.m5_cps.specs.Entries.{only, by_call, world_of}
 use Rattle.m5_cps.specs.Blocks.{unheld, unsham, if_true, if_left, if_nil, ask, Code, straight, test, ends, Block, Blocks}
-use Rattle.m5_cps.specs.TypeOf.{first_of, second_of, content_of, place_of, type_of}
+use Rattle.m5_cps.specs.TypeParts.{first_of, second_of, content_of, place_of}
+use Rattle.m5_cps.specs.TypeOf.{type_of}
 use Rattle.m5_cps_convert.specs.Scopes.{Scope, empty_scope, bind, fn_scope}
 use Rattle.m5_cps_convert.specs.Continuations.{Continuation, Tail, Then, Part, reify, taking, leaf_code, body_code, start_code, arm_code}
 use Rattle.m5_cps_convert.specs.Forms.{unary_code, binary_end, variable_of, get_code}

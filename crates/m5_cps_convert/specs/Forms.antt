@@ -15,7 +15,7 @@ use Rattle.m5_terms.specs.declared.form.TernaryForm.TheVariants as ternary_form
 use Rattle.m5_typing.specs.Context.{local, valid}
 use Rattle.m5_cps.specs.Entries.{of, takes, only, by_value, by_call, world_of}
 use Rattle.m5_cps.specs.Blocks.{constant, one, two, unheld, unsham, spawn, if_true, if_left, if_nil, if_here, go, call, ask, send, Code, straight, closure, test, ends}
-use Rattle.m5_cps.specs.TypeOf.{first_of, second_of, result_of, content_of, place_of}
+use Rattle.m5_cps.specs.TypeParts.{first_of, second_of, result_of, content_of, place_of}
 use Rattle.m5_cps_convert.specs.Scopes.{Scope, bind, in_block, in_sham, fn_scope, rec_scope}
 use Rattle.m5_cps_convert.specs.Continuations.{Continuation, Tail, Then, Part, apply, reify, taking, body_code, goal_code, start_code, arm_code}
 

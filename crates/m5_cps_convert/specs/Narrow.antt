@@ -4,7 +4,7 @@ use Rattle.m5_typing.specs.Width.{program_width}
 use Rattle.m5_typing.specs.Program.{ProgramTerm}
 use Rattle.m5_cps.specs.Entries.{entry_filled}
 use Rattle.m5_cps.specs.Blocks.{Test, if_left, if_nil, Ending, call, ask, send, Code, straight, closure, test, ends}
-use Rattle.m5_cps.specs.Running.{captured}
+use Rattle.m5_cps.specs.Captured.{captured}
 
 -- a block takes at most a slot for each binder around it and each value that waits beside it, and one for its continuation
 abbrev pub widest : ProgramTerm → ℕ

@@ -14,7 +14,7 @@ use Rattle.m5_typing.specs.Program.{ProgramTerm, setting_of}
 use Rattle.m5_cps.specs.Entries.{Entry, by_value, by_call}
 use Rattle.m5_cps.specs.Blocks.{Code}
 use Rattle.m5_cps.specs.Values.{Wrap, left, right, held, sham, Join, pair, cons, atom, wrap, join, closed}
-use Rattle.m5_cps.specs.Running.{over, Value}
+use Rattle.m5_cps.specs.Captured.{over, Value}
 use Rattle.m5_cps_convert.specs.Scopes.{Scope, fn_scope, rec_scope}
 use Rattle.m5_cps_convert.specs.Continuations.{Part, apply, body_code, goal_code, start_code}
 use Rattle.m5_cps_convert.specs.Convert.{cps}

@@ -13,7 +13,7 @@ use Rattle.m5_meaning.specs.Step as meaning_step
 use Rattle.m5_typing.specs.Program.{ProgramTerm}
 use Rattle.m5_cps.specs.Values.{atom, enter, call, thread, raw}
 use Rattle.m5_cps.specs.Units.{thread_units}
-use Rattle.m5_cps.specs.Running.{Value, Thread, Item, Site, value_units}
+use Rattle.m5_cps.specs.Captured.{Value, Thread, Item, Site, value_units}
 use Rattle.m5_cps_convert.specs.Slots.{SVal, SKont, SGoal, SStart}
 use Rattle.m5_cps_convert.specs.Reading.{Reads}
 
