@@ -29,3 +29,4 @@ pub mod Occurrences
 pub mod StaticUses
 pub mod Addresses
 pub mod Widths
+pub mod Programs

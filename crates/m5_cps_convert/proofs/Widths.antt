@@ -150,7 +150,7 @@ module _ (P : Program) where
   few_variables c n vs i j a h s = omega (arith, captured_by c n vs s.by, a, h)
 
   -- where only a continuation in slot k waits
-  in_slot : (s : VariableSlots) (n k : ℕ) (vs : List ℕ) (i j : ℕ) → Covers s vs → length vs ≤ i → 1 ≤ j → Around s n (Tail k) vs (k ∷ []) i j
+  pub in_slot : (s : VariableSlots) (n k : ℕ) (vs : List ℕ) (i j : ℕ) → Covers s vs → length vs ≤ i → 1 ≤ j → Around s n (Tail k) vs (k ∷ []) i j
   in_slot s n k vs i j c a b = record { covers = c; variables = a; others = b; some = b; uses = λ m x p g h. tail_safe m (Here (vs ++ (k ∷ [])) x) k (λ q. inl (among_right k vs (k ∷ []) (among_first k []))) x p h (λ q. inr refl); narrow = λ x m g. tt }
 
   -- a continuation gets a slot, and then it alone waits beside the variables

@@ -9,3 +9,5 @@ pub mod Slots
 pub mod Narrow
 pub mod Reading
 pub mod Threads
+pub mod Moments
+pub mod Laws
