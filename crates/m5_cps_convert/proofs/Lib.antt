@@ -30,3 +30,4 @@ pub mod StaticUses
 pub mod Addresses
 pub mod Widths
 pub mod Programs
+pub mod Matched

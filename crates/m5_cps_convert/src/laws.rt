@@ -1,0 +1,29 @@
+//! The laws of the conversion, each on a function that does nothing.
+
+ghost use Rattle.m5_cps_convert.specs.Laws.{BlocksMatch, BlocksArePaid, BlocksPlay, BlocksOpen, SentIsLight};
+
+/// At each world the blocks of a program go on as the program does: steps, asks, whatever lawful answers, and never wrong but
+/// where the program is.
+pub fn blocks_match_holds()
+    ensures { BlocksMatch }
+{}
+
+/// Each entry into a block and each object about to be made is paid for by the source's steps and weight.
+pub fn blocks_are_paid_holds()
+    ensures { BlocksArePaid }
+{}
+
+/// From each state that is read back, the blocks play along with the source.
+pub fn blocks_play_holds()
+    ensures { BlocksPlay }
+{}
+
+/// Each site of blocks begins where the source's does.
+pub fn blocks_open_holds()
+    ensures { BlocksOpen }
+{}
+
+/// A thread that is sent takes at most four times the size of the source's.
+pub fn sent_is_light_holds()
+    ensures { SentIsLight }
+{}
