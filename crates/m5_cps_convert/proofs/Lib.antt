@@ -31,3 +31,8 @@ pub mod Addresses
 pub mod Widths
 pub mod Programs
 pub mod Matched
+pub mod TypedSlots
+pub mod TypedKonts
+pub mod TypedForms
+pub mod TypedBinding
+pub mod TypedChoices
