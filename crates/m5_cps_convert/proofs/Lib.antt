@@ -36,3 +36,5 @@ pub mod TypedKonts
 pub mod TypedForms
 pub mod TypedBinding
 pub mod TypedChoices
+pub mod TypedGets
+pub mod TypedWhole

@@ -143,7 +143,7 @@ among_widths [] i g n e = absurd (cc)
 among_widths (h ∷ gs) zero g n e = let q : h ≡ g = cc in subst (λ y. 1 + term_width y.body ≤ fold (λ widest g. max widest (1 + term_width g.body)) n (h ∷ gs)) q (omega (arith, le-max_right n (1 + term_width h.body), fold_from gs (max n (1 + term_width h.body))))
 among_widths (h ∷ gs) (suc i) g n e = among_widths gs i g (max n (1 + term_width h.body)) e
 
-all_at : (p : Function → Bool) (gs : List Function) (i : ℕ) (g : Function) → IsTrue (list_all p gs) → slice_get gs i ≡ Some g → IsTrue (p g)
+pub all_at : (p : Function → Bool) (gs : List Function) (i : ℕ) (g : Function) → IsTrue (list_all p gs) → slice_get gs i ≡ Some g → IsTrue (p g)
 all_at p [] i g h e = absurd (cc)
 all_at p (f ∷ gs) zero g h e = subst (λ x. IsTrue (p x)) (let q : f ≡ g = cc in q) (both-left (p f) (list_all p gs) h)
 all_at p (f ∷ gs) (suc i) g h e = all_at p gs i g (both-right (p f) (list_all p gs) h) e

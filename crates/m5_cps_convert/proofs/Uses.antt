@@ -231,8 +231,11 @@ module _ (n : ℕ) (Ok : ℕ → Type 0) where
     pub away_goal_safe : (T : TypeExpression) (v : World) (x g k p : ℕ) → n ≤ p → Fine x → Fine g → Fine k → Safe (away_with_goal T v x g k p)
     away_goal_safe T v x g k p i fx fg fk = safe_straight _ _ no_use (safe_closure _ _ _ (record { by = safe_three p k (suc (suc p)) (fresh p i) fk (fresh (suc (suc p)) (omega (arith, i))) }) (record { by = safe_three x g (suc p) fx fg (fresh (suc p) (omega (arith, i))) }))
 
+    pub away_value_safe : (T : TypeExpression) (v : World) (x y k p : ℕ) → n ≤ p → Fine x → Fine y → Fine k → Safe (away_with_value T v x y k p)
+    away_value_safe T v x y k p i fx fy fk = safe_straight _ _ no_use (safe_closure _ _ _ (record { by = safe_three p k (suc (suc p)) (fresh p i) fk (fresh (suc (suc p)) (omega (arith, i))) }) (record { by = safe_three x (suc p) y fx (fresh (suc p) (omega (arith, i))) fy }))
+
     pub value_safe : (T : TypeExpression) (v : World) (x y k p : ℕ) → n ≤ p → Fine x → Fine y → Fine k → Safe (get_value T v x y k p)
-    value_safe T v x y k p i fx fy fk = safe_test if_here x _ _ fx (safe_go k y fk fy) (safe_straight _ _ no_use (safe_closure _ _ _ (record { by = safe_three p k (suc (suc p)) (fresh p i) fk (fresh (suc (suc p)) (omega (arith, i))) }) (record { by = safe_three x (suc p) y fx (fresh (suc p) (omega (arith, i))) fy })))
+    value_safe T v x y k p i fx fy fk = safe_test if_here x _ _ fx (safe_go k y fk fy) (away_value_safe T v x y k p i fx fy fk)
 
     pub get_variable_safe : (T : TypeExpression) (v : World) (x k p : ℕ) (o : Option ℕ) → n ≤ p → Fine x → ((l : ℕ) → o ≡ Some l → Fine l) → Fine k → Safe (get_variable T v x o k p)
     get_variable_safe T v x k p None i fx fo fk = safe_straight _ _ no_use (value_safe T v x p k (suc p) (omega (arith, i)) fx (fresh p i) fk)
