@@ -38,3 +38,4 @@ pub mod TypedBinding
 pub mod TypedChoices
 pub mod TypedGets
 pub mod TypedWhole
+pub mod Bounds

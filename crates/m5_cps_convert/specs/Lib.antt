@@ -9,5 +9,6 @@ pub mod Slots
 pub mod Narrow
 pub mod Reading
 pub mod Threads
+pub mod Counted
 pub mod Moments
 pub mod Laws
