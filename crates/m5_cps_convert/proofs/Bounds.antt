@@ -199,3 +199,86 @@ module _ (L : ℕ) where
         at : (o : Option ℕ) → S (get_code T v x o (cps E b) Γ k n) (2 + 3 * node_count b) 5 d
         at None = at_most _ 5 d (closed_over (goal_small b e (in_block (only v) Γ) n refl h) (omega arith) h (two_ways {a = 0} {a1 = 1} {p = 2} {d = 0} (at_most 0 2 0 (an_end (go n k) 0) (omega arith) (omega arith) (omega arith)) (filled (at_most 1 1 0 (closed_over (an_end (send (suc n) k (suc (suc (suc n)))) 0) (omega arith) (omega arith) (an_end (send x n (suc (suc n))) 0)) (omega arith) (omega arith) (omega arith))))) (omega arith) (omega arith) (omega (arith, one))
         at (Some z) = by_slot (Γ.slots z)
+
+    -- what follows the first part of a node of two, but for a get
+    abbrev RestSmall : BinaryForm → Type 0
+    RestSmall f = (T A : TypeExpression) (b : Expression) (e : SmallAt b) (Γ : Scope) (x n : ℕ) (κ : Continuation) (a p d : ℕ) → KSmall κ a p d → 1 ≤ d → d ≤ 501 → 501 ≤ d + Γ.arms → p + (3 * node_count b + 2) ≤ L → S (binary_rest f T A (variable_of b) (cps E b) Γ x n κ) (3 * node_count b + suc a) (3 * node_count b + suc p) d
+
+    two_small : (f : BinaryForm) (b : Expression) (e : SmallAt b) (Γ : Scope) (x n : ℕ) (κ : Continuation) (a p d : ℕ) → KSmall κ a p d → 1 ≤ d → d ≤ 501 → 501 ≤ d + Γ.arms → p + (3 * node_count b + 2) ≤ L → S (cps E b Γ n (Then (λ y m. straight (block.two f x y) (apply κ m (suc m))))) (3 * node_count b + suc a) (3 * node_count b + suc p) d
+    two_small f b e Γ x n κ a p d k one le ar h = at_most (3 * node_count b + suc a) (3 * node_count b + suc p) d (e Γ n _ a (suc p) d (λ y m. filled (k m (suc m))) one le ar (omega (arith, h))) (omega arith) (omega arith) (omega arith)
+
+    bound_small : (b : Expression) (e : SmallAt b) (Γ : Scope) (n : ℕ) (κ : Continuation) (a p d : ℕ) → KSmall κ a p d → 1 ≤ d → d ≤ 501 → 501 ≤ d + Γ.arms → p + (3 * node_count b + 2) ≤ L → S (cps E b Γ n κ) (3 * node_count b + suc a) (3 * node_count b + p) d
+    bound_small b e Γ n κ a p d k one le ar h = at_most (3 * node_count b + suc a) (3 * node_count b + p) d (e Γ n κ a p d k one le ar (omega (arith, h))) (omega arith) (omega arith) (omega arith)
+
+    call_small : (T : TypeExpression) (b : Expression) (e : SmallAt b) (Γ : Scope) (n : ℕ) (κ : Continuation) (ending : ℕ → ℕ → block.Ending) (a p d : ℕ) → KSmall κ a p d → 1 ≤ d → d ≤ 501 → 501 ≤ d + Γ.arms → p + (3 * node_count b + 2) ≤ L → S (cps E b Γ n (Then (λ y m. reify (by_value Γ.mode (of T)) κ m (λ k q. block.ends (ending y k))))) (3 * node_count b + suc a) (3 * node_count b + suc p) d
+    call_small T b e Γ n κ ending a p d k one le ar h = at_most (3 * node_count b + suc a) (3 * node_count b + suc p) d
+        (e Γ n _ (suc (a + 0)) 1 d (λ y m. reified _ κ m _ a p 0 0 d k le (omega (arith, h)) (λ l q. an_end (ending y l) d)) one le ar (omega (arith, h))) (omega arith) (omega arith) (omega arith)
+
+    do_small : RestSmall binary_form.Do
+    do_small T A b e Γ x n κ a p d k one le ar h = at_most _ _ d (bound_small b e Γ n κ a p d k one le ar h) (omega arith) (omega arith) (omega arith)
+
+    val_small : (y : ℕ) → RestSmall (binary_form.Val y)
+    val_small y T A b e Γ x n κ a p d k one le ar h = at_most _ _ d (bound_small b e (bind y _ x Γ) n κ a p d k one le ar h) (omega arith) (omega arith) (omega arith)
+
+    put_small : (y : ℕ) → RestSmall (binary_form.Put y)
+    put_small y T A b e Γ x n κ a p d k one le ar h = at_most _ _ d (bound_small b e (bind y _ x Γ) n κ a p d k one le ar h) (omega arith) (omega arith) (omega arith)
+
+    leta_small : (y : ℕ) → RestSmall (binary_form.Leta y)
+    leta_small y T A b e Γ x n κ a p d k one le ar h = at_most _ _ d (filled (bound_small b e (bind y _ n Γ) (suc n) κ a p d k one le ar h)) (omega arith) (omega arith) (omega arith)
+
+    lets_small : (y : ℕ) → RestSmall (binary_form.Lets y)
+    lets_small y T A b e Γ x n κ a p d k one le ar h = at_most _ _ d (filled (bound_small b e (bind y _ n Γ) (suc n) κ a p d k one le ar h)) (omega arith) (omega arith) (omega arith)
+
+    -- the first part, and then such code
+    first_small : (a : Expression) (e : SmallAt a) (Γ : Scope) (n : ℕ) (f : ℕ → ℕ → Code) (c p d : ℕ) → KSmall (Then f) c p d → 1 ≤ d → d ≤ 501 → 501 ≤ d + Γ.arms → p + 3 * node_count a ≤ L → S (cps E a Γ n (Then f)) (3 * node_count a + c) (3 * node_count a + p) d
+    first_small a e Γ n f c p d k one le ar h = e Γ n (Then f) c p d k one le ar h
+
+    part_small : (f : BinaryForm) → RestSmall f → (T A : TypeExpression) (a b : Expression) → SmallAt a → SmallAt b → (Γ : Scope) (n : ℕ) (κ : Continuation) (c p d : ℕ) → KSmall κ c p d → 1 ≤ d → d ≤ 501 → 501 ≤ d + Γ.arms → p + 3 * node_count (binary f a b) ≤ L → S (cps E a Γ n (Then (λ x m. binary_rest f T A (variable_of b) (cps E b) Γ x m κ))) (3 * node_count (binary f a b) + c) (3 * node_count (binary f a b) + p) d
+    part_small f r T A a b ea eb Γ n κ c p d k one le ar h = at_most _ _ d (first_small a ea Γ n _ (3 * node_count b + suc c) (3 * node_count b + suc p) d (λ x m. r T A b eb Γ x m κ c p d k one le ar (omega (arith, h, node_least a))) one le ar (omega (arith, h))) (omega arith) (omega arith) (omega arith)
+
+    get_all_small : (T A : TypeExpression) (a b : Expression) → SmallAt a → SmallAt b → (Γ : Scope) (n : ℕ) (κ : Continuation) (c p d : ℕ) → KSmall κ c p d → 1 ≤ d → d ≤ 501 → 501 ≤ d + Γ.arms → p + 3 * node_count (binary binary_form.Get a b) ≤ L → S (binary_code None binary_form.Get T A (variable_of b) (cps E a) (cps E b) Γ n κ) (3 * node_count (binary binary_form.Get a b) + c) (3 * node_count (binary binary_form.Get a b) + p) d
+    get_all_small T A a b ea eb Γ n κ c p d k one le ar h = at_most _ _ d (reified _ κ n _ c p (3 * node_count a + (2 + 3 * node_count b)) (3 * node_count a + 5) d k le (omega (arith, h))
+        (λ l m. first_small a ea Γ m _ (2 + 3 * node_count b) 5 d (λ x q. get_small T _ x b eb Γ l q d one (omega (arith, h))) one le ar (omega (arith, h, node_least b)))) (omega arith) (omega (arith, node_least b)) (omega arith)
+
+    binary_small : (o : Option Primitive) (f : BinaryForm) (T A : TypeExpression) (a b : Expression) → SmallAt a → SmallAt b → (Γ : Scope) (n : ℕ) (κ : Continuation) (c p d : ℕ) → KSmall κ c p d → 1 ≤ d → d ≤ 501 → 501 ≤ d + Γ.arms → p + 3 * node_count (binary f a b) ≤ L → S (binary_code o f T A (variable_of b) (cps E a) (cps E b) Γ n κ) (3 * node_count (binary f a b) + c) (3 * node_count (binary f a b) + p) d
+    binary_small (Some q) f T A a b ea eb Γ n κ c p d k one le ar h = at_most _ _ d (call_small T b eb Γ n κ (λ y l. ask q y l) c p d k one le ar (omega (arith, h))) (omega arith) (omega arith) (omega arith)
+    binary_small None binary_form.Get T A a b ea eb Γ n κ c p d k one le ar h = get_all_small T A a b ea eb Γ n κ c p d k one le ar h
+    binary_small None binary_form.Do T A a b ea eb Γ n κ c p d k one le ar h = part_small binary_form.Do do_small T A a b ea eb Γ n κ c p d k one le ar h
+    binary_small None (binary_form.Val y) T A a b ea eb Γ n κ c p d k one le ar h = part_small (binary_form.Val y) (val_small y) T A a b ea eb Γ n κ c p d k one le ar h
+    binary_small None (binary_form.Put y) T A a b ea eb Γ n κ c p d k one le ar h = part_small (binary_form.Put y) (put_small y) T A a b ea eb Γ n κ c p d k one le ar h
+    binary_small None (binary_form.Leta y) T A a b ea eb Γ n κ c p d k one le ar h = part_small (binary_form.Leta y) (leta_small y) T A a b ea eb Γ n κ c p d k one le ar h
+    binary_small None (binary_form.Lets y) T A a b ea eb Γ n κ c p d k one le ar h = part_small (binary_form.Lets y) (lets_small y) T A a b ea eb Γ n κ c p d k one le ar h
+    binary_small None binary_form.Call T A a b ea eb Γ n κ c p d k one le ar h = part_small binary_form.Call (λ T1 A1 b1 e1 Γ1 x1 n1 κ1 a1 p1 d1 k1 one1 le1 ar1 h1. call_small T1 b1 e1 Γ1 n1 κ1 (λ y l. call x1 y l) a1 p1 d1 k1 one1 le1 ar1 h1) T A a b ea eb Γ n κ c p d k one le ar h
+    binary_small None binary_form.Pair T A a b ea eb Γ n κ c p d k one le ar h = part_small binary_form.Pair (λ T1 A1 b1 e1 Γ1 x1 n1 κ1 a1 p1 d1 k1 one1 le1 ar1 h1. two_small binary_form.Pair b1 e1 Γ1 x1 n1 κ1 a1 p1 d1 k1 one1 le1 ar1 h1) T A a b ea eb Γ n κ c p d k one le ar h
+    binary_small None binary_form.Cons T A a b ea eb Γ n κ c p d k one le ar h = part_small binary_form.Cons (λ T1 A1 b1 e1 Γ1 x1 n1 κ1 a1 p1 d1 k1 one1 le1 ar1 h1. two_small binary_form.Cons b1 e1 Γ1 x1 n1 κ1 a1 p1 d1 k1 one1 le1 ar1 h1) T A a b ea eb Γ n κ c p d k one le ar h
+    binary_small None binary_form.Store T A a b ea eb Γ n κ c p d k one le ar h = part_small binary_form.Store (λ T1 A1 b1 e1 Γ1 x1 n1 κ1 a1 p1 d1 k1 one1 le1 ar1 h1. two_small binary_form.Store b1 e1 Γ1 x1 n1 κ1 a1 p1 d1 k1 one1 le1 ar1 h1) T A a b ea eb Γ n κ c p d k one le ar h
+    binary_small None (binary_form.Binary o) T A a b ea eb Γ n κ c p d k one le ar h = part_small (binary_form.Binary o) (λ T1 A1 b1 e1 Γ1 x1 n1 κ1 a1 p1 d1 k1 one1 le1 ar1 h1. two_small (binary_form.Binary o) b1 e1 Γ1 x1 n1 κ1 a1 p1 d1 k1 one1 le1 ar1 h1) T A a b ea eb Γ n κ c p d k one le ar h
+
+    -- arms: one in the block nests a test less, and one in a block of its own none
+    arm_small : (T : TypeExpression) (e : Expression) (s : SmallAt e) (Γ : Scope) (n k d : ℕ) → suc d ≤ 501 → 501 ≤ suc d + Γ.arms → 3 * node_count e ≤ L → S (arm_code T (cps E e) Γ n k) (suc (3 * node_count e)) (suc (3 * node_count e)) d
+    arm_small T e s Γ n k d le ar h = at (nat_lt Γ.arms 500) refl
+      where
+        at : (t : Bool) → nat_lt Γ.arms 500 ≡ t → S (if t then cps E e (in_arm Γ) n (Tail k) else closure (by_value Γ.mode (takes (of T))) (goal_code (cps E e) (in_block Γ.mode Γ) n) (block.ends (go n k))) (suc (3 * node_count e)) (suc (3 * node_count e)) d
+        at true q = at_most _ _ d (s (in_arm Γ) n (Tail k) 0 0 d (tail_small k d) (omega (arith, ar, less_than Γ.arms 500 q)) (omega (arith, le)) (omega (arith, ar)) (omega (arith, h))) (omega arith) (omega arith) (omega arith)
+        at false q = at_most _ _ d (closed_over (goal_small e s (in_block Γ.mode Γ) n refl h) (omega arith) h (an_end (go n k) d)) (omega arith) (omega arith) (omega arith)
+
+    -- both arms of a test: the longer path leaves out the other arm, which has a node at least
+    arms_small : (t : Test) (x : ℕ) (c e : Code) (b q d : ℕ) → S c (suc (3 * b)) (suc (3 * b)) d → S e (suc (3 * q)) (suc (3 * q)) d → 1 ≤ b → 1 ≤ q → S (test t x c e) (2 + (3 * b + 3 * q)) (3 * b + 3 * q) (suc d)
+    arms_small t x c e zero q d s r hb hq = absurd (omega (arith, hb))
+    arms_small t x c e (suc b) zero d s r hb hq = absurd (omega (arith, hq))
+    arms_small t x c e (suc b) (suc q) d s r hb hq = at_most _ _ (suc d) (two_ways {a = suc (3 * suc b)} {a1 = suc (3 * suc q)} {p = 3 * b + (3 * q + 4)} {d = d} (at_most (suc (3 * suc b)) (3 * b + (3 * q + 4)) d s (omega arith) (omega arith) (omega arith)) (at_most (suc (3 * suc q)) (3 * b + (3 * q + 4)) d r (omega arith) (omega arith) (omega arith))) (omega arith) (omega arith) (omega arith)
+
+    rest_of_three_small : (f : TernaryForm) (T A : TypeExpression) (b c : Expression) → SmallAt b → SmallAt c → (Γ : Scope) (x n : ℕ) (κ : Continuation) (a p d : ℕ) → KSmall κ a p d → 1 ≤ d → d ≤ 501 → 501 ≤ d + Γ.arms → p + (3 * node_count b + 3 * node_count c) ≤ L → S (ternary_rest f T A (cps E b) (cps E c) Γ x n κ) (3 + (3 * node_count b + 3 * node_count c) + a) (1 + (3 * node_count b + 3 * node_count c)) d
+    rest_of_three_small f T A b c eb ec Γ x n κ a p zero k one le ar h = absurd (omega (arith, one))
+    rest_of_three_small ternary_form.If T A b c eb ec Γ x n κ a p (suc d) k one le ar h = at_most _ _ (suc d) (reified _ κ n _ a p _ _ (suc d) k le (omega (arith, h)) (λ l m. arms_small _ x _ _ (node_count b) (node_count c) d (arm_small T b eb Γ m l d le ar (omega (arith, h))) (arm_small T c ec Γ m l d le ar (omega (arith, h))) (node_least b) (node_least c))) (omega arith) (omega arith) (omega arith)
+    rest_of_three_small (ternary_form.CaseSum y z) T A b c eb ec Γ x n κ a p (suc d) k one le ar h = at_most _ _ (suc d) (reified _ κ n _ a p _ _ (suc d) k le (omega (arith, h)) (λ l m. arms_small _ x _ _ (node_count b) (node_count c) d (arm_small T b eb (bind y _ m Γ) (suc m) l d le ar (omega (arith, h))) (arm_small T c ec (bind z _ m Γ) (suc m) l d le ar (omega (arith, h))) (node_least b) (node_least c))) (omega arith) (omega arith) (omega arith)
+    rest_of_three_small (ternary_form.CaseList y z) T A b c eb ec Γ x n κ a p (suc d) k one le ar h = at_most _ _ (suc d) (reified _ κ n _ a p _ _ (suc d) k le (omega (arith, h)) (λ l m. arms_small _ x _ _ (node_count b) (node_count c) d (arm_small T b eb Γ m l d le ar (omega (arith, h))) (arm_small T c ec (bind z _ (suc m) (bind y _ m Γ)) (suc (suc m)) l d le ar (omega (arith, h))) (node_least b) (node_least c))) (omega arith) (omega arith) (omega arith)
+
+    ternary_small : (f : TernaryForm) (a b c : Expression) → SmallAt a → SmallAt b → SmallAt c → SmallAt (ternary f a b c)
+    ternary_small f a b c ea eb ec Γ n κ q p d k one le ar h = at_most _ _ d (first_small a ea Γ n _ (3 + (3 * node_count b + 3 * node_count c) + q) (1 + (3 * node_count b + 3 * node_count c)) d (λ x m. rest_of_three_small f _ _ b c eb ec Γ x m κ q p d k one le ar (omega (arith, h))) one le ar (omega (arith, h, node_least a))) (omega arith) (omega arith) (omega arith)
+
+    pub small_at : (e : Expression) → SmallAt e
+    small_at (leaf f) = leaf_small f
+    small_at (unary f a) = unary_small f a (small_at a)
+    small_at (binary f a b) = λ Γ n κ c p d k one le ar h. binary_small (called_directly f a) f _ _ a b (small_at a) (small_at b) Γ n κ c p d k one le ar h
+    small_at (ternary f a b c) = ternary_small f a b c (small_at a) (small_at b) (small_at c)
