@@ -39,3 +39,4 @@ pub mod TypedChoices
 pub mod TypedGets
 pub mod TypedWhole
 pub mod Bounds
+pub mod Fitting

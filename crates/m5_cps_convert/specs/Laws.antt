@@ -15,6 +15,7 @@ use Rattle.m5_cps.specs.Machine.{blocks_machine, blocks_moments, opening_site, o
 use Rattle.m5_cps.specs.Program as blocks
 use Rattle.m5_cps_convert.specs.Convert.{program_blocks}
 use Rattle.m5_cps_convert.specs.Threads.{ReadsItem, ReadsState}
+use Rattle.m5_cps_convert.specs.Counted.{block_count}
 use Rattle.m5_cps_convert.specs.Moments.{readback, source_moments, paid}
 
 -- at each world the blocks of a program go on as the program does
@@ -46,3 +47,7 @@ SentIsLight = (P : ProgramTerm) (v : World) (t : Thread) (s : meaning.Thread) �
 -- the blocks are typed, their endings nest little, and they have few slots
 abbrev pub BlocksFit : Type 0
 BlocksFit = (P : ProgramTerm) → IsProgram P → blocks.IsProgram (program_blocks P)
+
+-- at most three blocks a node, and one for main
+abbrev pub BlocksAreFew : Type 0
+BlocksAreFew = (P : ProgramTerm) → block_count (program_blocks P) ≤ 3 * program_nodes P + 1

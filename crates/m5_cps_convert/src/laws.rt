@@ -1,6 +1,6 @@
 //! The laws of the conversion, each on a function that does nothing.
 
-ghost use Rattle.m5_cps_convert.specs.Laws.{BlocksMatch, BlocksArePaid, BlocksPlay, BlocksOpen, SentIsLight};
+ghost use Rattle.m5_cps_convert.specs.Laws.{BlocksMatch, BlocksArePaid, BlocksPlay, BlocksOpen, SentIsLight, BlocksFit, BlocksAreFew};
 
 /// At each world the blocks of a program go on as the program does: steps, asks, whatever lawful answers, and never wrong but
 /// where the program is.
@@ -26,4 +26,14 @@ pub fn blocks_open_holds()
 /// A thread that is sent takes at most four times the size of the source's.
 pub fn sent_is_light_holds()
     ensures { SentIsLight }
+{}
+
+/// The blocks of a program are typed; their endings nest at most 1,000 deep, and no block has more than 65,536 slots.
+pub fn converted_blocks_fit_holds()
+    ensures { BlocksFit }
+{}
+
+/// A program of n nodes has at most 3 * n + 1 blocks.
+pub fn blocks_are_few_holds()
+    ensures { BlocksAreFew }
 {}
