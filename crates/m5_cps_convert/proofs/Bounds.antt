@@ -1,25 +1,10 @@
 -- A node makes at most three blocks and fills at most three slots on a path, and no block's tests nest deep.
-use Rattle.std.proofs.Common.{◌≡◌, ℕ, zero, suc, ◌+◌, ◌*◌, ◌≤◌, ◌<◌, inl, inr, List, [], ◌∷◌, max, Option, Some, None, Bool, true, false, IsTrue, refl, sym, ap, ◌∙◌, subst, arith, if◌then◌else◌, nat_lt}
+use Rattle.std.proofs.Common.{◌≡◌, ℕ, zero, suc, ◌+◌, ◌*◌, ◌≤◌, ◌<◌, max, Option, Some, None, Bool, true, false, refl, sym, subst, arith, if◌then◌else◌, nat_lt}
 use Rattle.std.proofs.Math.Nat.{max-le}
-use Rattle.m5_terms.specs.Machine.{goes, asks, wrong}
-use Rattle.m5_terms.specs.Related.{AskReads, AnswerReads}
 use Rattle.m5_terms.specs.TypeExpression.{TypeExpression}
-use Rattle.m5_terms.specs.TypeExpression as type
 use Rattle.m5_terms.specs.Expression.{Expression, leaf, unary, binary, ternary}
-use Rattle.m5_terms.specs.Worlds.{IsSiteWorld}
-use Rattle.m5_terms.specs.Substitution.{substituted}
-use Rattle.m5_terms.specs.declared.ask.AskOf.{AskOf}
-use Rattle.m5_terms.specs.declared.ask.AskOf.TheVariants as query
-use Rattle.m5_terms.specs.declared.ask.AnswerOf.{AnswerOf}
-use Rattle.m5_terms.specs.declared.ask.AnswerOf.TheVariants as answer
 use Rattle.m5_terms.specs.declared.types.World.{World}
-use Rattle.m5_terms.specs.declared.types.World.TheVariants.{Any}
 use Rattle.m5_terms.specs.declared.types.Primitive.{Primitive}
-use Rattle.m5_terms.specs.declared.types.Primitive.TheVariants as primitive
-use Rattle.m5_terms.specs.declared.thread.Frame.{Frame}
-use Rattle.m5_terms.specs.declared.thread.Frame.TheVariants as frame
-use Rattle.m5_terms.specs.declared.thread.Focus.{Focus}
-use Rattle.m5_terms.specs.declared.thread.Focus.TheVariants.{Eval, Returned}
 use Rattle.m5_terms.specs.declared.form.LeafForm.{LeafForm}
 use Rattle.m5_terms.specs.declared.form.LeafForm.TheVariants as leaf_form
 use Rattle.m5_terms.specs.declared.form.UnaryForm.{UnaryForm}
@@ -28,41 +13,20 @@ use Rattle.m5_terms.specs.declared.form.BinaryForm.{BinaryForm}
 use Rattle.m5_terms.specs.declared.form.BinaryForm.TheVariants as binary_form
 use Rattle.m5_terms.specs.declared.form.TernaryForm.{TernaryForm}
 use Rattle.m5_terms.specs.declared.form.TernaryForm.TheVariants as ternary_form
-use Rattle.m5_typing.specs.declared.functions.Function.{Function}
-use Rattle.m5_typing.specs.Context.{Bound}
-use Rattle.m5_meaning.specs.Site.{Program}
-use Rattle.m5_meaning.specs.Site as meaning
-use Rattle.m5_meaning.specs.Step.{step_weight, thread_of, outcome}
-use Rattle.m5_meaning.specs.Step as meaning_step
-use Rattle.m5_meaning.specs.Reduction as reduction
-use Rattle.m5_cps.specs.Entries.{SlotType, of, takes, Mode, only, world_of, Entry, by_value, by_call}
+use Rattle.m5_cps.specs.Entries.{of, takes, only, Entry, by_value}
 use Rattle.m5_cps.specs.Blocks.{Code, straight, closure, test}
 use Rattle.m5_cps.specs.Blocks as block
-use Rattle.m5_cps.specs.Values.{Wrap, Join, atom, wrap, join, closed, enter, put}
-use Rattle.m5_cps.specs.Values as value
-use Rattle.m5_cps.specs.Units.{text_units, leaf_units, closure_units}
-use Rattle.m5_terms.specs.Size.{text_size}
-use Rattle.m5_cps.specs.Deeds.{Ran, ends, taking, taking_some}
-use Rattle.m5_cps.specs.Captured.{Closure, over, Value, Thread, Item, Site, captured}
-use Rattle.m5_cps.specs.Running.{run}
 use Rattle.m5_cps_convert.specs.Scopes.{Scope, bind, in_block, in_arm, in_sham, fn_scope, rec_scope}
 use Rattle.m5_cps_convert.specs.Continuations.{Tail, Then, apply, reify, variable_code, body_code, goal_code, start_code}
 use Rattle.m5_cps_convert.specs.Convert.{cps}
-use Rattle.m5_cps_convert.specs.Closing.{Values, hide, value_or, close}
-use Rattle.m5_cps_convert.specs.Proper.{Proper, StandsAt}
-use Rattle.m5_cps_convert.specs.Statics.{Static, STop, STail, SBack, SFirst, SSecond, SArgument, kont, Works, IsSlotted, first_rest}
-use Rattle.m5_cps_convert.specs.Slots.{SVal, SKont, SGoal, SStart, Has, FitsAt, Fits, Frames}
-use Rattle.m5_cps_convert.specs.Narrow.{Narrow}
-use Rattle.m5_cps_convert.specs.Reading.{setting, wrapped, joined, IsAtom, Reads}
-use Rattle.m5_cps_convert.specs.Threads.{IsEntered, ReadsThread, ReadsThreads, ReadsValues, ReadsItem, ReadsState}
 use Rattle.m5_terms.specs.Expression.{node_count}
 use Rattle.m5_typing.specs.Context.{Setting}
 use Rattle.m5_cps.specs.Blocks.{Straight, Test, if_here, go, call, ask, send}
 use Rattle.m5_cps.specs.Limits.{parts_then, parts_else, depth, path}
 use Rattle.m5_cps_convert.specs.Counted.{blocks_in}
 use Rattle.m5_cps_convert.specs.Continuations.{Continuation, constant_code, arm_code, thread_end}
-use Rattle.m5_cps_convert.specs.Forms.{unary_rest, binary_end, back_code, get_value, get_goal, get_variable, get_code, variable_of, away_with_value, away_with_goal}
-use Rattle.m5_cps_convert.specs.Convert.{called_directly, ask_code, binary_rest, binary_code, ternary_rest}
+use Rattle.m5_cps_convert.specs.Forms.{unary_rest, back_code, get_value, get_variable, get_code, variable_of}
+use Rattle.m5_cps_convert.specs.Convert.{called_directly, binary_rest, binary_code, ternary_rest}
 
 -- each closure's block nests at most D deep and fills at most L slots on a path
 abbrev pub Inner : ℕ → ℕ → Code → Type 0

@@ -1,66 +1,46 @@
 -- Choices: both arms go on with one continuation, and an arm may get a block of its own.
-use Rattle.std.proofs.Common.{◌≡◌, ℕ, suc, ◌+◌, ◌*◌, ◌≤◌, inl, inr, List, [], ◌∷◌, Some, Bool, true, false, nat_lt, if◌then◌else◌, refl, sym, ap, ◌∙◌, subst, arith}
-use Rattle.m5_terms.specs.Machine.{goes, asks, wrong}
-use Rattle.m5_terms.specs.Related.{AskReads, AnswerReads}
+use Rattle.std.proofs.Common.{◌≡◌, ℕ, suc, ◌≤◌, inl, inr, List, [], ◌∷◌, Some, Bool, true, false, nat_lt, if◌then◌else◌, refl, sym, ap, subst, arith}
+use Rattle.m5_terms.specs.Machine.{goes}
 use Rattle.m5_terms.specs.TypeExpression.{TypeExpression}
-use Rattle.m5_terms.specs.TypeExpression as type
 use Rattle.m5_terms.specs.Expression.{Expression, leaf, unary, binary, ternary}
 use Rattle.m5_terms.specs.Worlds.{IsSiteWorld}
-use Rattle.m5_terms.specs.Substitution.{substituted}
-use Rattle.m5_terms.specs.declared.ask.AskOf.{AskOf}
-use Rattle.m5_terms.specs.declared.ask.AskOf.TheVariants as query
-use Rattle.m5_terms.specs.declared.ask.AnswerOf.{AnswerOf}
-use Rattle.m5_terms.specs.declared.ask.AnswerOf.TheVariants as answer
 use Rattle.m5_terms.specs.declared.types.World.{World}
-use Rattle.m5_terms.specs.declared.types.World.TheVariants.{Any}
-use Rattle.m5_terms.specs.declared.types.Primitive.{Primitive}
-use Rattle.m5_terms.specs.declared.types.Primitive.TheVariants as primitive
 use Rattle.m5_terms.specs.declared.thread.Frame.{Frame}
 use Rattle.m5_terms.specs.declared.thread.Frame.TheVariants as frame
 use Rattle.m5_terms.specs.declared.thread.Focus.{Focus}
 use Rattle.m5_terms.specs.declared.thread.Focus.TheVariants.{Eval, Returned}
-use Rattle.m5_terms.specs.declared.form.LeafForm.{LeafForm}
 use Rattle.m5_terms.specs.declared.form.LeafForm.TheVariants as leaf_form
-use Rattle.m5_terms.specs.declared.form.UnaryForm.{UnaryForm}
 use Rattle.m5_terms.specs.declared.form.UnaryForm.TheVariants as unary_form
-use Rattle.m5_terms.specs.declared.form.BinaryForm.{BinaryForm}
 use Rattle.m5_terms.specs.declared.form.BinaryForm.TheVariants as binary_form
-use Rattle.m5_terms.specs.declared.form.TernaryForm.{TernaryForm}
 use Rattle.m5_terms.specs.declared.form.TernaryForm.TheVariants as ternary_form
-use Rattle.m5_typing.specs.declared.functions.Function.{Function}
-use Rattle.m5_typing.specs.Context.{Bound}
 use Rattle.m5_meaning.specs.Site.{Program}
 use Rattle.m5_meaning.specs.Site as meaning
 use Rattle.m5_meaning.specs.Step.{step_weight, thread_of, outcome}
 use Rattle.m5_meaning.specs.Step as meaning_step
-use Rattle.m5_meaning.specs.Reduction as reduction
-use Rattle.m5_cps.specs.Entries.{SlotType, of, takes, Mode, only, world_of, Entry, by_value, by_call}
+use Rattle.m5_cps.specs.Entries.{of, takes, world_of, by_value}
 use Rattle.m5_cps.specs.Blocks.{Code, straight, closure, test, if_true, if_left, if_nil}
 use Rattle.m5_cps.specs.Blocks as block
-use Rattle.m5_cps.specs.Values.{Wrap, Join, atom, wrap, join, closed, enter, put, put_all, filled_by}
-use Rattle.m5_cps.specs.Values as value
-use Rattle.m5_cps.specs.Units.{text_units, leaf_units, closure_units}
-use Rattle.m5_terms.specs.Size.{text_size}
-use Rattle.m5_cps.specs.Deeds.{Ran, ends, taking, taking_some, tested}
-use Rattle.m5_cps.specs.Captured.{Closure, over, Value, Thread, Item, Site, captured}
+use Rattle.m5_cps.specs.Values.{closed, enter, put, put_all, filled_by}
+use Rattle.m5_cps.specs.Units.{closure_units}
+use Rattle.m5_cps.specs.Deeds.{Ran, ends, tested}
+use Rattle.m5_cps.specs.Captured.{Closure, over, Value, Site, captured}
 use Rattle.m5_cps.specs.Running.{run}
-use Rattle.m5_cps_convert.specs.Scopes.{Scope, bind, in_block, in_arm, in_sham, fn_scope, rec_scope}
-use Rattle.m5_cps_convert.specs.Continuations.{Tail, Then, apply, reify, variable_code, body_code, goal_code, start_code}
+use Rattle.m5_cps_convert.specs.Scopes.{Scope, bind, in_block, in_arm}
+use Rattle.m5_cps_convert.specs.Continuations.{Tail, goal_code}
 use Rattle.m5_cps_convert.specs.Convert.{cps}
-use Rattle.m5_cps_convert.specs.Closing.{Values, hide, value_or, close}
-use Rattle.m5_cps_convert.specs.Proper.{Proper, StandsAt}
-use Rattle.m5_cps_convert.specs.Statics.{Static, STop, STail, SBack, SFirst, SSecond, SArgument, kont, Works, IsSlotted, first_rest}
-use Rattle.m5_cps_convert.specs.Slots.{SVal, SKont, SGoal, SStart, Has, FitsAt, Fits, Frames}
+use Rattle.m5_cps_convert.specs.Closing.{Values, hide, close}
+use Rattle.m5_cps_convert.specs.Proper.{Proper}
+use Rattle.m5_cps_convert.specs.Statics.{Static, STail, SFirst}
+use Rattle.m5_cps_convert.specs.Slots.{SVal, SKont, SGoal, Has, Fits}
 use Rattle.m5_cps_convert.specs.Narrow.{Narrow}
-use Rattle.m5_cps_convert.specs.Reading.{setting, wrapped, joined, IsAtom, Reads}
-use Rattle.m5_cps_convert.specs.Threads.{IsEntered, ReadsThread, ReadsThreads, ReadsValues, ReadsItem, ReadsState}
-use Rattle.m5_typing.specs.Context.{local, valid}
+use Rattle.m5_cps_convert.specs.Reading.{setting}
+use Rattle.m5_typing.specs.Context.{local}
 use Rattle.m5_cps.specs.TypeParts.{first_of, second_of, content_of}
 use Rattle.m5_cps_convert.specs.Continuations.{arm_code}
 use Rattle.m5_cps_convert.specs.Convert.{type_in}
-use Rattle.m5_cps_convert.proofs.Substitutions.{AllFixed, body_put}
+use Rattle.m5_cps_convert.proofs.Substitutions.{body_put}
 use Rattle.m5_cps_convert.proofs.Slots.{In, Grows, grows_on, put_grows, put_has, has_on, fits_on, fits_put, fits_fixed}
-use Rattle.m5_cps_convert.proofs.Meets.{W, code, rest, src, ticked, Tied, step_pays, behind, lent, Meets, back, Resumes, Evals}
+use Rattle.m5_cps_convert.proofs.Meets.{W, rest, src, ticked, Tied, step_pays, behind, Meets, back, Resumes, Evals}
 use Rattle.m5_cps_convert.proofs.Weights.{least}
 use Rattle.m5_cps_convert.proofs.Straight.{object_made}
 use Rattle.m5_cps_convert.proofs.Heads.{Head, atoms, lefts, rights, conses, head_of}
@@ -190,4 +170,3 @@ module _ (P : Program) (u : World) (site : IsSiteWorld u) where
 
   pub list_evals : (y z : ℕ) (a b c : Expression) → Evals P u a → Evals P u b → Evals P u c → Evals P u (ternary (ternary_form.CaseList y z) a b c)
   list_evals y z a b c ea eb ec = begins P u site (ternary (ternary_form.CaseList y z) a b c) a (λ w. w) (λ Γ. Γ) (λ Γ. refl) ea (λ Γ n K. refl) (λ s fs w γ. refl) (omega arith) (λ K. tt) (λ p. p.0) (λ w p st. inl (stands_here u w (ternary (ternary_form.CaseList y z) a b c) refl st)) (list_first y z a b c eb ec)
-

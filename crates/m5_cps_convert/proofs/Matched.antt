@@ -1,59 +1,17 @@
 -- The blocks' site matches the source's, its moments are paid for, and it begins where the source's does.
-use Rattle.std.proofs.Common.{◌≡◌, ℕ, zero, suc, ◌+◌, ◌*◌, ◌≤◌, ◌⊎◌, inl, inr, List, [], ◌∷◌, length, Option, Some, None, Bool, true, false, IsTrue, refl, sym, ap, ◌∙◌, subst, arith, if◌then◌else◌, not, ◌&&◌, true≢false}
+use Rattle.std.proofs.Common.{◌≡◌, ℕ, zero, suc, ◌+◌, ◌*◌, ◌≤◌, ◌⊎◌, inl, inr, List, Bool, true, false, refl, sym, subst, arith, if◌then◌else◌, true≢false}
 use Rattle.m5_terms.specs.Machine.{goes, asks, wrong}
-use Rattle.m5_terms.specs.Related.{AskReads, AnswerReads}
-use Rattle.m5_terms.specs.TypeExpression.{TypeExpression}
-use Rattle.m5_terms.specs.TypeExpression as type
-use Rattle.m5_terms.specs.Expression.{Expression, leaf, unary, binary, ternary}
 use Rattle.m5_terms.specs.Worlds.{IsSiteWorld}
-use Rattle.m5_terms.specs.Substitution.{substituted}
-use Rattle.m5_terms.specs.declared.ask.AskOf.{AskOf}
-use Rattle.m5_terms.specs.declared.ask.AskOf.TheVariants as query
-use Rattle.m5_terms.specs.declared.ask.AnswerOf.{AnswerOf}
-use Rattle.m5_terms.specs.declared.ask.AnswerOf.TheVariants as answer
 use Rattle.m5_terms.specs.declared.types.World.{World}
 use Rattle.m5_terms.specs.declared.types.World.TheVariants.{Any}
-use Rattle.m5_terms.specs.declared.types.Primitive.{Primitive}
-use Rattle.m5_terms.specs.declared.types.Primitive.TheVariants as primitive
-use Rattle.m5_terms.specs.declared.thread.Frame.{Frame}
-use Rattle.m5_terms.specs.declared.thread.Frame.TheVariants as frame
-use Rattle.m5_terms.specs.declared.thread.Focus.{Focus}
-use Rattle.m5_terms.specs.declared.thread.Focus.TheVariants.{Eval, Returned}
-use Rattle.m5_terms.specs.declared.form.LeafForm.{LeafForm}
-use Rattle.m5_terms.specs.declared.form.LeafForm.TheVariants as leaf_form
-use Rattle.m5_terms.specs.declared.form.UnaryForm.{UnaryForm}
-use Rattle.m5_terms.specs.declared.form.UnaryForm.TheVariants as unary_form
-use Rattle.m5_terms.specs.declared.form.BinaryForm.{BinaryForm}
-use Rattle.m5_terms.specs.declared.form.BinaryForm.TheVariants as binary_form
-use Rattle.m5_terms.specs.declared.form.TernaryForm.{TernaryForm}
-use Rattle.m5_terms.specs.declared.form.TernaryForm.TheVariants as ternary_form
-use Rattle.m5_typing.specs.declared.functions.Function.{Function}
-use Rattle.m5_typing.specs.Context.{Bound}
 use Rattle.m5_meaning.specs.Site.{Program}
 use Rattle.m5_meaning.specs.Site as meaning
 use Rattle.m5_meaning.specs.Step.{step_weight, thread_of, outcome}
 use Rattle.m5_meaning.specs.Step as meaning_step
-use Rattle.m5_meaning.specs.Reduction as reduction
-use Rattle.m5_cps.specs.Entries.{SlotType, of, takes, Mode, only, world_of, Entry, by_value, by_call}
-use Rattle.m5_cps.specs.Blocks.{Code, straight, closure, test}
-use Rattle.m5_cps.specs.Blocks as block
-use Rattle.m5_cps.specs.Values.{Wrap, Join, atom, wrap, join, closed, enter, put}
-use Rattle.m5_cps.specs.Values as value
-use Rattle.m5_cps.specs.Units.{text_units, leaf_units, closure_units}
-use Rattle.m5_terms.specs.Size.{text_size}
-use Rattle.m5_cps.specs.Deeds.{Ran, ends, taking, taking_some}
-use Rattle.m5_cps.specs.Captured.{Closure, over, Value, Thread, Item, Site, captured}
-use Rattle.m5_cps.specs.Running.{run}
-use Rattle.m5_cps_convert.specs.Scopes.{Scope, bind, in_block, in_arm, in_sham, fn_scope, rec_scope}
-use Rattle.m5_cps_convert.specs.Continuations.{Tail, Then, apply, reify, variable_code, body_code, goal_code, start_code}
-use Rattle.m5_cps_convert.specs.Convert.{cps}
-use Rattle.m5_cps_convert.specs.Closing.{Values, hide, value_or, close}
-use Rattle.m5_cps_convert.specs.Proper.{Proper, StandsAt}
-use Rattle.m5_cps_convert.specs.Statics.{Static, STop, STail, SBack, SFirst, SSecond, SArgument, kont, Works, IsSlotted, first_rest}
-use Rattle.m5_cps_convert.specs.Slots.{SVal, SKont, SGoal, SStart, Has, FitsAt, Fits, Frames}
-use Rattle.m5_cps_convert.specs.Narrow.{Narrow}
-use Rattle.m5_cps_convert.specs.Reading.{setting, wrapped, joined, IsAtom, Reads}
-use Rattle.m5_cps_convert.specs.Threads.{IsEntered, ReadsThread, ReadsThreads, ReadsValues, ReadsItem, ReadsState}
+use Rattle.m5_cps.specs.Entries.{only}
+use Rattle.m5_cps.specs.Deeds.{Ran, ends}
+use Rattle.m5_cps.specs.Captured.{Closure, Thread, Site}
+use Rattle.m5_cps_convert.specs.Threads.{ReadsThreads, ReadsState}
 use Rattle.m5_terms.specs.Machine.{Comes, GoesWrong}
 use Rattle.m5_terms.specs.Matching.{Matches, Reaches, MeetsAt, AreMet}
 use Rattle.m5_terms.specs.declared.types.World.TheVariants.{Home, Server, Panel}
@@ -63,15 +21,13 @@ use Rattle.m5_typing.specs.Program.{IsProgram}
 use Rattle.m5_meaning.specs.Opening as meaning_opening
 use Rattle.m5_site_sound.specs.SourceMachine.{source_machine}
 use Rattle.m5_site_sound.proofs.Counts.{CountsOne, next-counts}
-use Rattle.m5_cps.specs.Values.{SiteNext, unit_value}
 use Rattle.m5_cps.specs.Deeds.{Point, makes, stops_full}
-use Rattle.m5_cps.specs.Running.{front, ran, site_next, no_values}
+use Rattle.m5_cps.specs.Running.{front, ran}
 use Rattle.m5_cps.specs.Machine.{blocks_machine, blocks_moments, Making, point_of, is_entering, opening_site, opening_threads}
 use Rattle.m5_cps_convert.specs.Convert.{program_blocks}
 use Rattle.m5_cps_convert.specs.Scopes.{empty_scope}
-use Rattle.m5_cps_convert.specs.Threads.{ReadsSite, StoppedToo}
 use Rattle.m5_cps_convert.specs.Moments.{readback, source_moments, IsPaid, paid}
-use Rattle.m5_cps_convert.specs.Laws.{BlocksMatch, BlocksArePaid, BlocksPlay, BlocksOpen, SentIsLight}
+use Rattle.m5_cps_convert.specs.Laws.{BlocksPlay, BlocksOpen, SentIsLight}
 use Rattle.m5_cps_convert.proofs.Meets.{Weighs, AtPoint, WrongMet, PointMet, NextMet, Meets}
 use Rattle.m5_cps_convert.proofs.Straight.{threads_long, values_long}
 use Rattle.m5_cps_convert.proofs.Entering.{units_everywhere}

@@ -1,5 +1,5 @@
 -- A block's run, and the source's steps that go with it: what is owed for a run, a node's code and a continuation's.
-use Rattle.std.proofs.Common.{◌≡◌, ℕ, suc, ◌+◌, ◌*◌, ◌≤◌, ◌⊎◌, inl, inr, List, ◌∷◌, length, Option, Some, Bool, true, false, arith}
+use Rattle.std.proofs.Common.{◌≡◌, ℕ, suc, ◌+◌, ◌*◌, ◌≤◌, ◌⊎◌, inl, inr, List, ◌∷◌, length, Option, Some, false, arith}
 use Rattle.m5_terms.specs.Machine.{goes, asks, wrong, Comes}
 use Rattle.m5_terms.specs.Related.{AskReads, AnswerReads}
 use Rattle.m5_terms.specs.declared.ask.AskOf.{AskOf}

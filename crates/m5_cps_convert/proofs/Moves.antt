@@ -1,77 +1,49 @@
 -- A get, here or at another world: the body is a block that waits for its continuation, or a variable's value.
-use Rattle.std.proofs.Common.{◌≡◌, ◌≢◌, ℕ, suc, ◌+◌, ◌*◌, ◌≤◌, ◌<◌, inl, inr, List, [], ◌∷◌, Option, Some, None, Bool, true, false, refl, sym, ap, ◌∙◌, subst, arith, if◌then◌else◌}
-use Rattle.m5_terms.specs.Machine.{goes, asks, wrong}
-use Rattle.m5_terms.specs.Related.{AskReads, AnswerReads}
+use Rattle.std.proofs.Common.{◌≡◌, ◌≢◌, ℕ, suc, ◌+◌, ◌*◌, ◌≤◌, ◌<◌, inl, inr, List, ◌∷◌, Bool, true, false, refl, sym, ap, ◌∙◌, subst, arith, if◌then◌else◌}
+use Rattle.m5_terms.specs.Machine.{asks, wrong}
 use Rattle.m5_terms.specs.TypeExpression.{TypeExpression}
-use Rattle.m5_terms.specs.TypeExpression as type
-use Rattle.m5_terms.specs.Expression.{Expression, leaf, unary, binary, ternary}
+use Rattle.m5_terms.specs.Expression.{Expression, leaf, binary}
 use Rattle.m5_terms.specs.Worlds.{IsSiteWorld}
-use Rattle.m5_terms.specs.Substitution.{substituted}
-use Rattle.m5_terms.specs.declared.ask.AskOf.{AskOf}
 use Rattle.m5_terms.specs.declared.ask.AskOf.TheVariants as query
-use Rattle.m5_terms.specs.declared.ask.AnswerOf.{AnswerOf}
-use Rattle.m5_terms.specs.declared.ask.AnswerOf.TheVariants as answer
 use Rattle.m5_terms.specs.declared.types.World.{World}
-use Rattle.m5_terms.specs.declared.types.World.TheVariants.{Any}
-use Rattle.m5_terms.specs.declared.types.Primitive.{Primitive}
-use Rattle.m5_terms.specs.declared.types.Primitive.TheVariants as primitive
 use Rattle.m5_terms.specs.declared.thread.Frame.{Frame}
 use Rattle.m5_terms.specs.declared.thread.Frame.TheVariants as frame
-use Rattle.m5_terms.specs.declared.thread.Focus.{Focus}
 use Rattle.m5_terms.specs.declared.thread.Focus.TheVariants.{Eval, Returned}
-use Rattle.m5_terms.specs.declared.form.LeafForm.{LeafForm}
 use Rattle.m5_terms.specs.declared.form.LeafForm.TheVariants as leaf_form
-use Rattle.m5_terms.specs.declared.form.UnaryForm.{UnaryForm}
-use Rattle.m5_terms.specs.declared.form.UnaryForm.TheVariants as unary_form
-use Rattle.m5_terms.specs.declared.form.BinaryForm.{BinaryForm}
 use Rattle.m5_terms.specs.declared.form.BinaryForm.TheVariants as binary_form
-use Rattle.m5_terms.specs.declared.form.TernaryForm.{TernaryForm}
-use Rattle.m5_terms.specs.declared.form.TernaryForm.TheVariants as ternary_form
-use Rattle.m5_typing.specs.declared.functions.Function.{Function}
-use Rattle.m5_typing.specs.Context.{Bound}
 use Rattle.m5_meaning.specs.Site.{Program}
 use Rattle.m5_meaning.specs.Site as meaning
 use Rattle.m5_meaning.specs.Step.{step_weight, thread_of, outcome}
 use Rattle.m5_meaning.specs.Step as meaning_step
 use Rattle.m5_meaning.specs.Reduction as reduction
-use Rattle.m5_cps.specs.Entries.{SlotType, of, takes, Mode, only, world_of, Entry, by_value, by_call}
+use Rattle.m5_cps.specs.Entries.{of, only, by_value}
 use Rattle.m5_cps.specs.Blocks.{Code, straight, closure, test, constant, go, if_here}
 use Rattle.m5_cps.specs.Blocks as block
 use Rattle.m5_cps.specs.Values.{Wrap, Join, atom, wrap, join, closed, enter, put, put_all, filled_by}
 use Rattle.m5_cps.specs.Values as value
-use Rattle.m5_cps.specs.Units.{text_units, leaf_units, closure_units}
-use Rattle.m5_terms.specs.Size.{text_size}
-use Rattle.m5_cps.specs.Deeds.{Ran, ends, taking, taking_some, tested}
-use Rattle.m5_cps.specs.Captured.{Closure, over, Value, Thread, Item, Site, captured, value_units}
+use Rattle.m5_cps.specs.Units.{closure_units}
+use Rattle.m5_cps.specs.Deeds.{ends, tested}
+use Rattle.m5_cps.specs.Captured.{over, Value, Site, captured, value_units}
 use Rattle.m5_cps.specs.Running.{run}
-use Rattle.m5_cps_convert.specs.Scopes.{Scope, bind, in_block, in_arm, in_sham, fn_scope, rec_scope}
-use Rattle.m5_cps_convert.specs.Continuations.{Tail, Then, apply, reify, variable_code, body_code, goal_code, start_code}
-use Rattle.m5_cps_convert.specs.Convert.{cps}
-use Rattle.m5_cps_convert.specs.Closing.{Values, hide, value_or, close}
-use Rattle.m5_cps_convert.specs.Proper.{Proper, StandsAt}
-use Rattle.m5_cps_convert.specs.Statics.{Static, STop, STail, SBack, SFirst, SSecond, SArgument, kont, Works, IsSlotted, first_rest}
-use Rattle.m5_cps_convert.specs.Slots.{SVal, SKont, SGoal, SStart, Has, FitsAt, Fits, Frames}
+use Rattle.m5_cps_convert.specs.Statics.{SBack}
+use Rattle.m5_cps_convert.specs.Slots.{SVal, SKont, SGoal, Has}
 use Rattle.m5_cps_convert.specs.Narrow.{Narrow}
-use Rattle.m5_cps_convert.specs.Reading.{setting, wrapped, joined, IsAtom, Reads}
-use Rattle.m5_cps_convert.specs.Threads.{IsEntered, ReadsThread, ReadsThreads, ReadsValues, ReadsItem, ReadsState}
+use Rattle.m5_cps_convert.specs.Reading.{Reads}
+use Rattle.m5_cps_convert.specs.Threads.{ReadsItem}
 use Rattle.m5_terms.specs.TypeExpression.{same_world}
-use Rattle.m5_terms.specs.Size.{node_size, frames_size}
+use Rattle.m5_terms.specs.Size.{node_size}
 use Rattle.m5_meaning.specs.Reduction.{got}
 use Rattle.m5_cps.specs.Asks.{sent}
-use Rattle.m5_cps.specs.TypeParts.{place_of}
-use Rattle.m5_cps_convert.specs.Forms.{back_code, away_with_goal, away_with_value, get_value, get_goal, get_variable, variable_of}
-use Rattle.m5_cps_convert.specs.Convert.{type_in}
-use Rattle.m5_cps_convert.specs.Slots.{WaitsFirst}
+use Rattle.m5_cps_convert.specs.Forms.{back_code, away_with_goal, away_with_value}
 use Rattle.m5_cps_convert.proofs.Substitutions.{put_other}
-use Rattle.m5_cps_convert.proofs.Slots.{In, Grows, grows_on, put_grows, put_has, has_on, fits_on}
-use Rattle.m5_cps_convert.proofs.Meets.{W, code, rest, src, ticked, Tied, step_pays, behind, lent, Meets, back, Resumes, Evals}
+use Rattle.m5_cps_convert.proofs.Slots.{In, Grows, grows_on, put_grows, put_has, has_on}
+use Rattle.m5_cps_convert.proofs.Meets.{W, src, ticked, Tied, step_pays, lent, Meets}
 use Rattle.m5_cps_convert.proofs.Weights.{least}
 use Rattle.m5_cps_convert.proofs.Straight.{object_made}
-use Rattle.m5_cps_convert.proofs.Heads.{Head, atoms, head_of}
-use Rattle.m5_cps_convert.proofs.Parts.{stands_here}
-use Rattle.m5_cps_convert.proofs.Calls.{closure_room, reified, front_reads}
-use Rattle.m5_cps_convert.proofs.Ends.{tail_resumes, after_sent_reads}
-use Rattle.m5_cps_convert.proofs.Light.{value_light, kont_light, goal_light}
+use Rattle.m5_cps_convert.proofs.Heads.{Head, atoms}
+use Rattle.m5_cps_convert.proofs.Calls.{closure_room, front_reads}
+use Rattle.m5_cps_convert.proofs.Ends.{after_sent_reads}
+use Rattle.m5_cps_convert.proofs.Light.{value_light, kont_light}
 
 module _ (P : Program) (u : World) (site : IsSiteWorld u) (T : TypeExpression) (va : World) (k : ℕ) (t : Site) (s : meaning.Site) (fs : List Frame) (x w : World) (a1 b1 : Expression) (xe : x ≡ u) (l : ℕ) where
   -- where the source stands before it moves, with an address or another value

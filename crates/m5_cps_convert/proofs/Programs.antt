@@ -1,80 +1,43 @@
 -- A program's text is proper and closed, and its blocks are narrow.
-use Rattle.std.proofs.Common.{◌≡◌, ◌≢◌, ℕ, zero, suc, ◌+◌, ◌≤◌, ◌⊎◌, inl, inr, List, [], ◌∷◌, ◌++◌, length, max, fold, Option, Some, None, Bool, true, false, ◌&&◌, IsTrue, refl, sym, ap, ap₂, ◌∙◌, subst, arith, if◌then◌else◌, ◌==◌, ◌||◌, slice_get, true≢false}
+use Rattle.std.proofs.Common.{◌≡◌, ℕ, zero, suc, ◌+◌, ◌≤◌, inr, List, [], ◌∷◌, max, fold, Option, Some, None, Bool, true, false, ◌&&◌, IsTrue, refl, sym, ap, ap₂, subst, arith, if◌then◌else◌, ◌==◌, ◌||◌, slice_get, true≢false}
 use Rattle.std.proofs.Math.Nat.{le-max_left, le-max_right}
 use Rattle.std.specs.List.{list_all}
-use Rattle.m5_terms.specs.Machine.{goes, asks, wrong}
-use Rattle.m5_terms.specs.Related.{AskReads, AnswerReads}
 use Rattle.m5_terms.specs.TypeExpression.{TypeExpression}
 use Rattle.m5_terms.specs.TypeExpression as type
 use Rattle.m5_terms.specs.Expression.{Expression, leaf, unary, binary, ternary}
-use Rattle.m5_terms.specs.Worlds.{IsSiteWorld}
-use Rattle.m5_terms.specs.Substitution.{substituted}
-use Rattle.m5_terms.specs.declared.ask.AskOf.{AskOf}
-use Rattle.m5_terms.specs.declared.ask.AskOf.TheVariants as query
-use Rattle.m5_terms.specs.declared.ask.AnswerOf.{AnswerOf}
-use Rattle.m5_terms.specs.declared.ask.AnswerOf.TheVariants as answer
 use Rattle.m5_terms.specs.declared.types.World.{World}
-use Rattle.m5_terms.specs.declared.types.World.TheVariants.{Any}
-use Rattle.m5_terms.specs.declared.types.Primitive.{Primitive}
-use Rattle.m5_terms.specs.declared.types.Primitive.TheVariants as primitive
-use Rattle.m5_terms.specs.declared.thread.Frame.{Frame}
-use Rattle.m5_terms.specs.declared.thread.Frame.TheVariants as frame
-use Rattle.m5_terms.specs.declared.thread.Focus.{Focus}
-use Rattle.m5_terms.specs.declared.thread.Focus.TheVariants.{Eval, Returned}
 use Rattle.m5_terms.specs.declared.form.LeafForm.{LeafForm}
 use Rattle.m5_terms.specs.declared.form.LeafForm.TheVariants as leaf_form
 use Rattle.m5_terms.specs.declared.form.UnaryForm.{UnaryForm}
 use Rattle.m5_terms.specs.declared.form.UnaryForm.TheVariants as unary_form
-use Rattle.m5_terms.specs.declared.form.BinaryForm.{BinaryForm}
-use Rattle.m5_terms.specs.declared.form.BinaryForm.TheVariants as binary_form
-use Rattle.m5_terms.specs.declared.form.TernaryForm.{TernaryForm}
-use Rattle.m5_terms.specs.declared.form.TernaryForm.TheVariants as ternary_form
 use Rattle.m5_typing.specs.declared.functions.Function.{Function}
 use Rattle.m5_typing.specs.Context.{Bound}
 use Rattle.m5_meaning.specs.Site.{Program}
-use Rattle.m5_meaning.specs.Site as meaning
-use Rattle.m5_meaning.specs.Step.{step_weight, thread_of, outcome}
-use Rattle.m5_meaning.specs.Step as meaning_step
-use Rattle.m5_meaning.specs.Reduction as reduction
-use Rattle.m5_cps.specs.Entries.{SlotType, of, takes, Mode, only, world_of, Entry, by_value, by_call}
-use Rattle.m5_cps.specs.Blocks.{Code, straight, closure, test}
-use Rattle.m5_cps.specs.Blocks as block
-use Rattle.m5_cps.specs.Values.{Wrap, Join, atom, wrap, join, closed, enter, put}
-use Rattle.m5_cps.specs.Values as value
-use Rattle.m5_cps.specs.Units.{text_units, leaf_units, closure_units}
-use Rattle.m5_terms.specs.Size.{text_size}
-use Rattle.m5_cps.specs.Deeds.{Ran, ends, taking, taking_some}
-use Rattle.m5_cps.specs.Captured.{Closure, over, Value, Thread, Item, Site, captured}
-use Rattle.m5_cps.specs.Running.{run}
-use Rattle.m5_cps_convert.specs.Scopes.{Scope, bind, in_block, in_arm, in_sham, fn_scope, rec_scope}
-use Rattle.m5_cps_convert.specs.Continuations.{Tail, Then, apply, reify, variable_code, body_code, goal_code, start_code}
-use Rattle.m5_cps_convert.specs.Convert.{cps}
+use Rattle.m5_cps.specs.Entries.{only}
+use Rattle.m5_cps.specs.Values.{put}
+use Rattle.m5_cps_convert.specs.Scopes.{fn_scope}
+use Rattle.m5_cps_convert.specs.Continuations.{Tail}
 use Rattle.m5_cps_convert.specs.Closing.{Values, hide, value_or, close}
-use Rattle.m5_cps_convert.specs.Proper.{ProperForm, Proper, StandsAt}
-use Rattle.m5_cps_convert.specs.Statics.{Static, STop, STail, SBack, SFirst, SSecond, SArgument, kont, Works, IsSlotted, first_rest}
-use Rattle.m5_cps_convert.specs.Slots.{SVal, SKont, SGoal, SStart, Has, FitsAt, Fits, Frames}
+use Rattle.m5_cps_convert.specs.Proper.{ProperForm, Proper}
 use Rattle.m5_cps_convert.specs.Narrow.{Narrow}
-use Rattle.m5_cps_convert.specs.Reading.{setting, wrapped, joined, IsAtom, Reads}
-use Rattle.m5_cps_convert.specs.Threads.{IsEntered, ReadsThread, ReadsThreads, ReadsValues, ReadsItem, ReadsState}
+use Rattle.m5_cps_convert.specs.Reading.{setting}
 use Rattle.m5_terms.specs.InText.{leaf_in_text, unary_in_text}
 use Rattle.m5_terms.specs.Substitution.{among, unary_binders, binary_binders, second_binders, third_binders}
-use Rattle.m5_terms.specs.declared.types.World.TheVariants.{Home, Server, Panel}
+use Rattle.m5_terms.specs.declared.types.World.TheVariants.{Home}
 use Rattle.m5_terms.proofs.SiteWorlds.{has-site}
-use Rattle.m5_typing.specs.Value.{IsValueForm}
 use Rattle.m5_typing.specs.Context.{local, valid, Context, Setting, nothing, with, with_all, if_valid}
 use Rattle.m5_typing.specs.Rules.{LeafRule, Pick, unary_rule}
-use Rattle.m5_typing.specs.Typing.{Typed, UnaryTyped, part_context}
+use Rattle.m5_typing.specs.Typing.{Typed, part_context}
 use Rattle.m5_typing.specs.Program.{IsProgram, in_text}
-use Rattle.m5_typing.specs.Width.{term_width, functions_width, program_width}
+use Rattle.m5_typing.specs.Width.{term_width, functions_width}
 use Rattle.m5_typing.proofs.Declared.{declared_is_typed}
 use Rattle.m5_typing.proofs.Mobile.{both-left, both-right}
 use Rattle.m5_cps_convert.specs.Convert.{function_code, main_code}
 use Rattle.m5_cps_convert.specs.Continuations.{thread_end}
 use Rattle.m5_cps_convert.specs.Scopes.{empty_scope}
-use Rattle.m5_cps_convert.specs.Narrow.{widest}
 use Rattle.m5_cps_convert.proofs.Meets.{W}
 use Rattle.m5_cps_convert.proofs.Uses.{end_safe, own_slot, first_true}
-use Rattle.m5_cps_convert.proofs.Widths.{Around, narrow_at, in_slot, Here}
+use Rattle.m5_cps_convert.proofs.Widths.{narrow_at, in_slot, Here}
 use Rattle.m5_cps_convert.proofs.Entering.{Good, units_everywhere}
 
 leaf_proper : (f : LeafForm) (E : Setting) (G : Context) (w : World) (A : TypeExpression) → IsTrue (leaf_in_text f) → LeafRule E G w f A → Proper (leaf f)

@@ -53,7 +53,6 @@ frames_on u (STail k) fs g h = has_on k (SKont u fs) g h
 frames_on u (SBack a k) fs g h = record { world = h.world; below = h.below; address = has_on a (SVal (leaf (leaf_form.Addr h.world))) g h.address; continuation = has_on k (SKont h.world h.below) g h.continuation; is = h.is }
 frames_on u (SFirst Γ e K) fs g h = record { world = h.world; values = h.values; below = h.below; has_part = h.has_part; slotted = h.slotted; proper = h.proper; stands = h.stands; fits = fits_on Γ h.values g h.fits; is = h.is; rest = frames_on u K h.below g h.rest }
 frames_on u (SSecond Γ e x K) fs g h = record { world = h.world; values = h.values; first = h.first; below = h.below; has_parts = h.has_parts; stands = h.stands; has = has_on x (SVal h.first) g h.has; is = h.is; rest = frames_on u K h.below g h.rest }
-
 frames_on u (SArgument Γ p b K) fs g h = record { argument = h.argument; below = h.below; is = h.is; rest = frames_on u K h.below g h.rest }
 
 -- what is put in is a value without free variables

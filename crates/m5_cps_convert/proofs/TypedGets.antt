@@ -1,40 +1,27 @@
 -- A get fits: its goal, its value and what sends the value back stand at the address alone.
-use Rattle.std.proofs.Common.{◌≡◌, ◌≢◌, ◌⊎◌, inl, inr, ℕ, suc, ◌+◌, ◌≤◌, ◌<◌, Bool, true, false, ◌||◌, IsTrue, List, [], ◌∷◌, Option, Some, None, refl, sym, ap, subst, ◌∙◌, arith}
-use Rattle.m5_terms.specs.Expression.{Expression, leaf, unary, binary, ternary}
-use Rattle.m5_terms.specs.TypeExpression as type
-use Rattle.m5_terms.specs.TypeExpression.{TypeExpression, unit, bool, address, product, sum, function, list, sham, at, mobile, same_world}
-use Rattle.m5_terms.specs.Substitution.{unary_binders, binary_binders, second_binders, third_binders}
+use Rattle.std.proofs.Common.{◌≡◌, ◌≢◌, inl, inr, ℕ, suc, ◌<◌, Bool, true, false, ◌||◌, IsTrue, Option, Some, refl, sym, subst, ◌∙◌, arith}
+use Rattle.m5_terms.specs.Expression.{Expression, leaf, binary}
+use Rattle.m5_terms.specs.TypeExpression.{TypeExpression, address, mobile, same_world}
 use Rattle.m5_terms.specs.declared.types.World.{World}
-use Rattle.m5_terms.specs.declared.types.World.TheVariants.{Home, Server, Panel, Any}
-use Rattle.m5_terms.specs.declared.types.Primitive.{Primitive}
-use Rattle.m5_terms.specs.declared.form.LeafForm.{LeafForm}
+use Rattle.m5_terms.specs.declared.types.World.TheVariants.{Any}
 use Rattle.m5_terms.specs.declared.form.LeafForm.TheVariants as leaf_form
-use Rattle.m5_terms.specs.declared.form.UnaryForm.{UnaryForm}
-use Rattle.m5_terms.specs.declared.form.UnaryForm.TheVariants as unary_form
-use Rattle.m5_terms.specs.declared.form.BinaryForm.{BinaryForm}
 use Rattle.m5_terms.specs.declared.form.BinaryForm.TheVariants as binary_form
-use Rattle.m5_terms.specs.declared.form.TernaryForm.{TernaryForm}
-use Rattle.m5_terms.specs.declared.form.TernaryForm.TheVariants as ternary_form
-use Rattle.m5_typing.specs.Value.{IsValueForm, is_value_form}
-use Rattle.m5_typing.specs.Context.{Bound, local, valid, Context, Setting, nothing, with, with_all, valid_part, if_valid}
-use Rattle.m5_typing.specs.Rules.{LeafRule, Pick, unary_rule, binary_rule, ternary_rule}
-use Rattle.m5_typing.specs.Typing.{Typed, UnaryTyped, part_context}
-use Rattle.m5_typing.proofs.Mobile.{both-left, both-right}
-use Rattle.m5_cps.specs.Entries.{SlotType, of, takes, Mode, only, everywhere, Entry, by_value, by_call, world_of}
+use Rattle.m5_typing.specs.Context.{local, valid, Context, Setting}
+use Rattle.m5_typing.specs.Typing.{Typed}
+use Rattle.m5_cps.specs.Entries.{SlotType, of, takes, Mode, only, everywhere, by_value}
 use Rattle.m5_cps.specs.Blocks.{Code, straight, closure, test, constant, one, two, spawn, unheld, unsham, if_true, if_left, if_nil, if_here, go, call, ask}
 use Rattle.m5_cps.specs.Blocks as block
-use Rattle.m5_cps.specs.Values.{put}
-use Rattle.m5_cps.specs.Slots.{Slot, slot, Slots, no_slots, fill, is_mobile, Reaches, Needs, HasType, Allowed, entered_at, entry_slots, Captures}
-use Rattle.m5_cps.specs.Fits.{IsStraightOne, IsStraightTwo, part_mode, no_part, Chosen, Fits}
-use Rattle.m5_cps.specs.TypeParts.{result_of, place_of, content_of, first_of, second_of}
-use Rattle.m5_cps.specs.TypeOf.{type_of, unary_context, second_context, second_bounds, second_world, second_arm_bounds, third_arm_bounds}
-use Rattle.m5_cps_typing.proofs.Found.{found, unary_part, second_part, second_arm_part, third_arm_part}
-use Rattle.m5_cps_convert.specs.Scopes.{VariableSlots, Scope, empty_scope, bind, in_block, in_arm, in_sham, fn_scope, rec_scope}
-use Rattle.m5_cps_convert.specs.Continuations.{Continuation, Tail, Then, apply, reify, variable_code, leaf_code, body_code, goal_code, start_code, arm_code, thread_end}
-use Rattle.m5_cps_convert.specs.Forms.{unary_rest, back_code, away_with_goal, away_with_value, get_value, get_goal, get_variable, get_code, variable_of}
-use Rattle.m5_cps_convert.specs.Convert.{cps, type_in, called_directly, ask_code, binary_rest, binary_code}
-use Rattle.m5_cps_convert.proofs.TypedSlots.{Same, same_on, filled, has, reaches_same, needs_own, needs_on, needs_as, Vars, vars_on, vars_with, vars_to, valid_vars, taken, taken_captures, taken_vars, taken_needs, own_captures, IsUsable, bound_mode, bound_slot}
-use Rattle.m5_cps_convert.proofs.TypedKonts.{sc, node, allowed_reaches, NoLocals, Good, good_allowed, same_self, entered_same, TakesAt, takes_on, applied, applied_next, WithSlot, reified, reified_as, Fit, HereFit, here_fit, leaf_fit}
+use Rattle.m5_cps.specs.Slots.{Slots, fill, Needs, HasType, entered_at}
+use Rattle.m5_cps.specs.Fits.{Chosen, Fits}
+use Rattle.m5_cps.specs.TypeParts.{place_of}
+use Rattle.m5_cps.specs.TypeOf.{type_of}
+use Rattle.m5_cps_typing.proofs.Found.{found}
+use Rattle.m5_cps_convert.specs.Scopes.{VariableSlots}
+use Rattle.m5_cps_convert.specs.Continuations.{Tail, Then, reify}
+use Rattle.m5_cps_convert.specs.Forms.{back_code, away_with_goal, away_with_value, get_value, get_goal, get_variable, get_code, variable_of}
+use Rattle.m5_cps_convert.specs.Convert.{cps}
+use Rattle.m5_cps_convert.proofs.TypedSlots.{same_on, filled, needs_own, needs_on, needs_as, Vars, vars_on, taken, taken_captures, taken_vars, taken_needs}
+use Rattle.m5_cps_convert.proofs.TypedKonts.{sc, node, entered_same, TakesAt, reified, Fit, here_fit}
 use Rattle.m5_cps_convert.proofs.TypedForms.{not_form}
 use Rattle.m5_terms.proofs.SiteWorlds.{same-true, same-false}
 use Rattle.m5_cps.specs.Captured.{uses}

@@ -1,25 +1,10 @@
 -- Each block takes no more slots with it than the program's width and one.
-use Rattle.std.proofs.Common.{◌≡◌, ℕ, zero, suc, ◌+◌, ◌≤◌, ◌<◌, ◌⊎◌, inl, inr, List, [], ◌∷◌, ◌++◌, length, max, Option, Some, None, Bool, true, false, IsTrue, refl, sym, ap, ◌∙◌, subst, ⊎_elim, arith, if◌then◌else◌, ◌==◌, ◌||◌, nat_lt}
+use Rattle.std.proofs.Common.{◌≡◌, ℕ, suc, ◌+◌, ◌≤◌, ◌<◌, ◌⊎◌, inl, inr, List, [], ◌∷◌, ◌++◌, length, max, Option, Some, None, Bool, true, false, IsTrue, refl, sym, subst, ⊎_elim, arith, if◌then◌else◌, ◌==◌, ◌||◌, nat_lt}
 use Rattle.std.proofs.Math.Nat.{le-max_left, le-max_right}
-use Rattle.m5_terms.specs.Machine.{goes, asks, wrong}
-use Rattle.m5_terms.specs.Related.{AskReads, AnswerReads}
 use Rattle.m5_terms.specs.TypeExpression.{TypeExpression}
-use Rattle.m5_terms.specs.TypeExpression as type
 use Rattle.m5_terms.specs.Expression.{Expression, leaf, unary, binary, ternary}
-use Rattle.m5_terms.specs.Worlds.{IsSiteWorld}
-use Rattle.m5_terms.specs.Substitution.{substituted}
-use Rattle.m5_terms.specs.declared.ask.AskOf.{AskOf}
-use Rattle.m5_terms.specs.declared.ask.AskOf.TheVariants as query
-use Rattle.m5_terms.specs.declared.ask.AnswerOf.{AnswerOf}
-use Rattle.m5_terms.specs.declared.ask.AnswerOf.TheVariants as answer
 use Rattle.m5_terms.specs.declared.types.World.{World}
-use Rattle.m5_terms.specs.declared.types.World.TheVariants.{Any}
 use Rattle.m5_terms.specs.declared.types.Primitive.{Primitive}
-use Rattle.m5_terms.specs.declared.types.Primitive.TheVariants as primitive
-use Rattle.m5_terms.specs.declared.thread.Frame.{Frame}
-use Rattle.m5_terms.specs.declared.thread.Frame.TheVariants as frame
-use Rattle.m5_terms.specs.declared.thread.Focus.{Focus}
-use Rattle.m5_terms.specs.declared.thread.Focus.TheVariants.{Eval, Returned}
 use Rattle.m5_terms.specs.declared.form.LeafForm.{LeafForm}
 use Rattle.m5_terms.specs.declared.form.LeafForm.TheVariants as leaf_form
 use Rattle.m5_terms.specs.declared.form.UnaryForm.{UnaryForm}
@@ -28,44 +13,28 @@ use Rattle.m5_terms.specs.declared.form.BinaryForm.{BinaryForm}
 use Rattle.m5_terms.specs.declared.form.BinaryForm.TheVariants as binary_form
 use Rattle.m5_terms.specs.declared.form.TernaryForm.{TernaryForm}
 use Rattle.m5_terms.specs.declared.form.TernaryForm.TheVariants as ternary_form
-use Rattle.m5_typing.specs.declared.functions.Function.{Function}
-use Rattle.m5_typing.specs.Context.{Bound}
 use Rattle.m5_meaning.specs.Site.{Program}
-use Rattle.m5_meaning.specs.Site as meaning
-use Rattle.m5_meaning.specs.Step.{step_weight, thread_of, outcome}
-use Rattle.m5_meaning.specs.Step as meaning_step
-use Rattle.m5_meaning.specs.Reduction as reduction
-use Rattle.m5_cps.specs.Entries.{SlotType, of, takes, Mode, only, world_of, Entry, by_value, by_call, entry_filled}
+use Rattle.m5_cps.specs.Entries.{SlotType, of, takes, Mode, only, world_of, by_value}
 use Rattle.m5_cps.specs.Blocks.{Code, straight, closure, test, Test, if_here, constant, go, call, ask, send}
 use Rattle.m5_cps.specs.Blocks as block
-use Rattle.m5_cps.specs.Values.{Wrap, Join, atom, wrap, join, closed, enter, put}
-use Rattle.m5_cps.specs.Values as value
-use Rattle.m5_cps.specs.Units.{text_units, leaf_units, closure_units}
-use Rattle.m5_terms.specs.Size.{text_size}
-use Rattle.m5_cps.specs.Deeds.{Ran, ends, taking, taking_some}
-use Rattle.m5_cps.specs.Captured.{Closure, over, Value, Thread, Item, Site, captured}
-use Rattle.m5_cps.specs.Running.{run}
+use Rattle.m5_cps.specs.Values.{put}
+use Rattle.m5_cps.specs.Captured.{captured}
 use Rattle.m5_cps_convert.specs.Scopes.{Scope, bind, in_block, in_arm, in_sham, fn_scope, rec_scope}
 use Rattle.m5_cps_convert.specs.Continuations.{Tail, Then, apply, reify, variable_code, body_code, goal_code, start_code}
 use Rattle.m5_cps_convert.specs.Convert.{cps}
-use Rattle.m5_cps_convert.specs.Closing.{Values, hide, value_or, close}
-use Rattle.m5_cps_convert.specs.Proper.{Proper, StandsAt}
-use Rattle.m5_cps_convert.specs.Statics.{Static, STop, STail, SBack, SFirst, SSecond, SArgument, kont, Works, IsSlotted, first_rest}
-use Rattle.m5_cps_convert.specs.Slots.{SVal, SKont, SGoal, SStart, Has, FitsAt, Fits, Frames}
 use Rattle.m5_cps_convert.specs.Narrow.{widest, Narrow}
-use Rattle.m5_cps_convert.specs.Reading.{setting, wrapped, joined, IsAtom, Reads}
-use Rattle.m5_cps_convert.specs.Threads.{IsEntered, ReadsThread, ReadsThreads, ReadsValues, ReadsItem, ReadsState}
-use Rattle.m5_terms.specs.Substitution.{among, unary_binders, binary_binders, second_binders, third_binders}
+use Rattle.m5_cps_convert.specs.Reading.{setting}
+use Rattle.m5_terms.specs.Substitution.{among, binary_binders, second_binders, third_binders}
 use Rattle.m5_typing.specs.Context.{Setting, local, valid}
 use Rattle.m5_typing.specs.Width.{term_width}
 use Rattle.m5_cps.specs.TypeParts.{first_of, second_of, content_of, place_of}
 use Rattle.m5_cps_convert.specs.Scopes.{VariableSlots}
-use Rattle.m5_cps_convert.specs.Continuations.{Continuation, constant_code, arm_code, thread_end}
-use Rattle.m5_cps_convert.specs.Forms.{unary_rest, binary_end, back_code, away_with_goal, away_with_value, get_value, get_goal, get_variable, get_code, variable_of}
-use Rattle.m5_cps_convert.specs.Convert.{called_directly, ask_code, binary_rest, binary_code, ternary_rest}
+use Rattle.m5_cps_convert.specs.Continuations.{Continuation, arm_code, thread_end}
+use Rattle.m5_cps_convert.specs.Forms.{unary_rest, binary_end, back_code, get_value, get_variable, get_code, variable_of}
+use Rattle.m5_cps_convert.specs.Convert.{called_directly, binary_rest, binary_code, ternary_rest}
 use Rattle.m5_cps_convert.proofs.Sums.{captured_by}
 use Rattle.m5_cps_convert.proofs.Occurrences.{among_left, among_right}
-use Rattle.m5_cps_convert.proofs.Uses.{Fine, Safe, KSafe, KnownIn, KnownBut, fresh, used, body_safe, goal_safe, start_safe, tail_safe, end_safe, slot_fine, safe_straight, safe_two, safe_three, safe_reify, safe_go, is_fine, rest_of_two_safe, rest_of_three_safe, get_safe, one_known, two_known, first_true, own_slot}
+use Rattle.m5_cps_convert.proofs.Uses.{Fine, Safe, KSafe, fresh, used, body_safe, goal_safe, start_safe, tail_safe, end_safe, slot_fine, safe_straight, safe_two, safe_three, safe_reify, is_fine, rest_of_two_safe, rest_of_three_safe, one_known, two_known, first_true, own_slot}
 
 length_append : (xs ys : List ℕ) → length (xs ++ ys) ≡ length xs + length ys
 length_append [] ys = omega arith
@@ -323,13 +292,17 @@ module _ (P : Program) where
 
   rest_of_three_narrow : (f : TernaryForm) (T A : TypeExpression) (b c : Expression) → NarrowAt b → NarrowAt c → (Γ : Scope) (n x : ℕ) (κ : Continuation) (vs ks : List ℕ) (i j : ℕ) → Around Γ.slots n κ vs ks i j → suc (i + j) + (length (second_binders f) + term_width b) ≤ W → suc (i + j) + (length (third_binders f) + term_width c) ≤ W → Narrow W (ternary_rest f T A (cps E b) (cps E c) Γ x n κ) n
   rest_of_three_narrow ternary_form.If T A b c nb nc Γ n x κ vs ks i j r h g = reified Γ.mode (of T) Γ.slots n κ vs ks i j _ r (omega (arith, h)) (λ k m ms gg q. (omega (arith, h, r.some), arm_narrow T b nb Γ m k vs ms i j q (omega (arith, h)), arm_narrow T c nc Γ m k vs ms i j q (omega (arith, g))))
-  rest_of_three_narrow (ternary_form.CaseSum y z) T A b c nb nc Γ n x κ vs ks i j r h g = reified Γ.mode (of T) Γ.slots n κ vs ks i j _ r (omega (arith, h)) (λ k m ms gg q. (omega (arith, h, r.some),
-      arm_narrow T b nb (bind y (local (world_of Γ.mode) (first_of A)) m Γ) (suc m) k (m ∷ vs) ms (suc i) j (bound_more Γ.slots (suc m) (Tail k) vs ms i j y m (later Γ.slots m (suc m) (Tail k) vs ms i j (omega arith) q)) (omega (arith, h)),
-      arm_narrow T c nc (bind z (local (world_of Γ.mode) (second_of A)) m Γ) (suc m) k (m ∷ vs) ms (suc i) j (bound_more Γ.slots (suc m) (Tail k) vs ms i j z m (later Γ.slots m (suc m) (Tail k) vs ms i j (omega arith) q)) (omega (arith, g))))
-  rest_of_three_narrow (ternary_form.CaseList y z) T A b c nb nc Γ n x κ vs ks i j r h g = reified Γ.mode (of T) Γ.slots n κ vs ks i j _ r (omega (arith, h)) (λ k m ms gg q. (omega (arith, h, r.some),
-      arm_narrow T b nb Γ m k vs ms i j q (omega (arith, h)),
-      arm_narrow T c nc (bind z (local (world_of Γ.mode) A) (suc m) (bind y (local (world_of Γ.mode) (content_of A)) m Γ)) (suc (suc m)) k (suc m ∷ m ∷ vs) ms (suc (suc i)) j
-      (bound_more (put y (Some m) Γ.slots) (suc (suc m)) (Tail k) (m ∷ vs) ms (suc i) j z (suc m) (bound_more Γ.slots (suc (suc m)) (Tail k) vs ms i j y m (later Γ.slots m (suc (suc m)) (Tail k) vs ms i j (omega arith) q))) (omega (arith, g))))
+  rest_of_three_narrow (ternary_form.CaseSum y z) T A b c nb nc Γ n x κ vs ks i j r h g = reified Γ.mode (of T) Γ.slots n κ vs ks i j _ r (omega (arith, h)) (λ k m ms gg q. (
+    omega (arith, h, r.some),
+    arm_narrow T b nb (bind y (local (world_of Γ.mode) (first_of A)) m Γ) (suc m) k (m ∷ vs) ms (suc i) j (bound_more Γ.slots (suc m) (Tail k) vs ms i j y m (later Γ.slots m (suc m) (Tail k) vs ms i j (omega arith) q)) (omega (arith, h)),
+    arm_narrow T c nc (bind z (local (world_of Γ.mode) (second_of A)) m Γ) (suc m) k (m ∷ vs) ms (suc i) j (bound_more Γ.slots (suc m) (Tail k) vs ms i j z m (later Γ.slots m (suc m) (Tail k) vs ms i j (omega arith) q)) (omega (arith, g)),
+  ))
+  rest_of_three_narrow (ternary_form.CaseList y z) T A b c nb nc Γ n x κ vs ks i j r h g = reified Γ.mode (of T) Γ.slots n κ vs ks i j _ r (omega (arith, h)) (λ k m ms gg q. (
+    omega (arith, h, r.some),
+    arm_narrow T b nb Γ m k vs ms i j q (omega (arith, h)),
+    arm_narrow T c nc (bind z (local (world_of Γ.mode) A) (suc m) (bind y (local (world_of Γ.mode) (content_of A)) m Γ)) (suc (suc m)) k (suc m ∷ m ∷ vs) ms (suc (suc i)) j
+        (bound_more (put y (Some m) Γ.slots) (suc (suc m)) (Tail k) (m ∷ vs) ms (suc i) j z (suc m) (bound_more Γ.slots (suc (suc m)) (Tail k) vs ms i j y m (later Γ.slots m (suc (suc m)) (Tail k) vs ms i j (omega arith) q))) (omega (arith, g)),
+  ))
 
   ternary_narrow : (f : TernaryForm) (a b c : Expression) → NarrowAt a → NarrowAt b → NarrowAt c → NarrowAt (ternary f a b c)
   ternary_narrow f a b c na nb nc Γ n κ vs ks i j r h =

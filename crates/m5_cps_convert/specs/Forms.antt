@@ -1,23 +1,18 @@
 -- The code of each form, from the code of its parts.
 use Rattle.std.specs.Prelude.{ℕ, suc, Option, Some, None}
-use Rattle.m5_terms.specs.Expression.{Expression, leaf, unary, binary, ternary}
+use Rattle.m5_terms.specs.Expression.{Expression, leaf}
 use Rattle.m5_terms.specs.TypeExpression.{TypeExpression, unit}
 use Rattle.m5_terms.specs.declared.types.World.{World}
-use Rattle.m5_terms.specs.declared.types.Primitive.{Primitive}
-use Rattle.m5_terms.specs.declared.form.LeafForm.{LeafForm}
 use Rattle.m5_terms.specs.declared.form.LeafForm.TheVariants as leaf_form
 use Rattle.m5_terms.specs.declared.form.UnaryForm.{UnaryForm}
 use Rattle.m5_terms.specs.declared.form.UnaryForm.TheVariants as unary_form
 use Rattle.m5_terms.specs.declared.form.BinaryForm.{BinaryForm}
 use Rattle.m5_terms.specs.declared.form.BinaryForm.TheVariants as binary_form
-use Rattle.m5_terms.specs.declared.form.TernaryForm.{TernaryForm}
-use Rattle.m5_terms.specs.declared.form.TernaryForm.TheVariants as ternary_form
-use Rattle.m5_typing.specs.Context.{local, valid}
-use Rattle.m5_cps.specs.Entries.{of, takes, only, by_value, by_call, world_of}
-use Rattle.m5_cps.specs.Blocks.{constant, one, two, unheld, unsham, spawn, if_true, if_left, if_nil, if_here, go, call, ask, send, Code, straight, closure, test, ends}
-use Rattle.m5_cps.specs.TypeParts.{first_of, second_of, result_of, content_of, place_of}
-use Rattle.m5_cps_convert.specs.Scopes.{Scope, bind, in_block, in_sham, fn_scope, rec_scope}
-use Rattle.m5_cps_convert.specs.Continuations.{Continuation, Tail, Then, Part, apply, reify, taking, body_code, goal_code, start_code, arm_code}
+use Rattle.m5_cps.specs.Entries.{of, takes, only, by_value, by_call}
+use Rattle.m5_cps.specs.Blocks.{constant, one, two, spawn, if_here, go, call, send, Code, straight, closure, test, ends}
+use Rattle.m5_cps.specs.TypeParts.{result_of}
+use Rattle.m5_cps_convert.specs.Scopes.{Scope, in_block, in_sham, fn_scope, rec_scope}
+use Rattle.m5_cps_convert.specs.Continuations.{Continuation, Tail, Then, Part, apply, reify, taking, body_code, goal_code, start_code}
 
 -- a form of one part, when the part's value is in slot x
 abbrev pub unary_rest : UnaryForm → ℕ → ℕ → Continuation → Code

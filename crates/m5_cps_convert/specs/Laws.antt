@@ -1,5 +1,5 @@
 -- The laws of the conversion.
-use Rattle.std.specs.Prelude.{ℕ, ◌+◌, ◌≤◌, ◌*◌}
+use Rattle.std.specs.Prelude.{◌+◌, ◌≤◌, ◌*◌}
 use Rattle.m5_terms.specs.Matching.{Matches, AreMet}
 use Rattle.m5_terms.specs.Playing.{PlaysAlways}
 use Rattle.m5_terms.specs.Worlds.{IsSiteWorld}

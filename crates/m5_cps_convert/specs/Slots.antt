@@ -1,6 +1,6 @@
 -- What slots stand for, and so variables and frames.
 use Rattle.std.specs.Prelude.{◌≡◌, ℕ, ◌≤◌, ◌<◌, List, [], ◌∷◌, Option, Some, None}
-use Rattle.m5_terms.specs.Expression.{Expression, leaf, binary}
+use Rattle.m5_terms.specs.Expression.{Expression, leaf}
 use Rattle.m5_terms.specs.declared.types.World.{World}
 use Rattle.m5_terms.specs.declared.types.Primitive.{Primitive}
 use Rattle.m5_terms.specs.declared.form.LeafForm.TheVariants as leaf_form
@@ -8,7 +8,7 @@ use Rattle.m5_terms.specs.declared.thread.Frame.{Frame}
 use Rattle.m5_terms.specs.declared.thread.Frame.TheVariants as frame
 use Rattle.m5_meaning.specs.Parts.{parts, fill}
 use Rattle.m5_cps_convert.specs.Scopes.{Scope}
-use Rattle.m5_cps_convert.specs.Closing.{Values, hide, close}
+use Rattle.m5_cps_convert.specs.Closing.{Values, close}
 use Rattle.m5_cps_convert.specs.Proper.{Proper, StandsAt}
 use Rattle.m5_cps_convert.specs.Statics.{Static, STop, STail, SBack, SFirst, SSecond, SArgument, IsSlotted, direct_call}
 

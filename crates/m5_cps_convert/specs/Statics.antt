@@ -3,7 +3,6 @@ use Rattle.std.specs.Prelude.{ℕ}
 use Rattle.m5_terms.specs.Expression.{Expression, leaf, unary, binary, ternary}
 use Rattle.m5_terms.specs.declared.types.Primitive.{Primitive}
 use Rattle.m5_terms.specs.declared.form.LeafForm.TheVariants as leaf_form
-use Rattle.m5_terms.specs.declared.form.UnaryForm.TheVariants as unary_form
 use Rattle.m5_terms.specs.declared.form.BinaryForm.TheVariants as binary_form
 use Rattle.m5_typing.specs.Context.{Setting}
 use Rattle.m5_cps.specs.Blocks.{Code, send, done, ends}

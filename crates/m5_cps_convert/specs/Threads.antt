@@ -1,5 +1,5 @@
 -- What the threads, sites and items of blocks are read back to, and when a stop of a site comes no sooner than its source's.
-use Rattle.std.specs.Prelude.{◌≡◌, ℕ, ◌+◌, ◌≤◌, ◌⊎◌, ◌*◌, true, false, Bool, List, [], ◌∷◌}
+use Rattle.std.specs.Prelude.{◌≡◌, ◌+◌, ◌≤◌, ◌⊎◌, ◌*◌, true, false, Bool, List, [], ◌∷◌}
 use Rattle.m5_terms.specs.Expression.{Expression, binary}
 use Rattle.m5_terms.specs.declared.types.World.{World}
 use Rattle.m5_terms.specs.declared.form.LeafForm.TheVariants as leaf_form
