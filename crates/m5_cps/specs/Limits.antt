@@ -14,12 +14,12 @@ parts_else if_left = 1
 parts_else if_nil = 2
 parts_else _ = 0
 
--- how many tests stand in one another
+-- how many endings are open at once, tests among them
 abbrev pub depth : Code → ℕ
 depth (straight f c) = depth c
 depth (closure y b c) = depth c
 depth (test t x b c) = suc (max (depth b) (depth c))
-depth (ends e) = 0
+depth (ends e) = 1
 
 -- how many slots are filled along the longest path
 abbrev pub path : Code → ℕ

@@ -54,6 +54,13 @@ impl Draft {
         }
     }
 
+    /// The types by number.
+    pub fn types(&self) -> &Types
+        ensures { result.now ≡ self.now.types }
+    {
+        &self.types
+    }
+
     /// A new label, which is not placed.
     fn label(&mut self) -> Result<usize, AllocError>
         ensures number { IfOk result (λ l. l ≡ length self.old.places) }

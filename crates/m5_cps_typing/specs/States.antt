@@ -73,7 +73,6 @@ module _ {C : Type 0} (K : ClosureTyping C) (F : Setting) where
   abbrev pub SiteFits : CellTypes → World → Site C → Type 0
   SiteFits L u s = Each (ThreadFits L u) s.threads × CellsFit L u s.cells (L u) × Each (HandlerFits L u) s.handlers
 
-  -- raw bytes have no type
   abbrev pub ItemFits : CellTypes → World → Item C → Type 0
   ItemFits L u (thread t) = ThreadFits L u t
   ItemFits L u (raw bytes) = Unit {0}
