@@ -2,7 +2,7 @@
 use Rattle.std.specs.Prelude.{ℕ, suc, ◌+◌, ◌≤◌, max}
 use Rattle.m5_cps.specs.Entries.{Entry, entry_filled}
 use Rattle.m5_cps.specs.Blocks.{Test, if_left, if_nil, Code, straight, closure, test, ends}
-use Rattle.m5_cps.specs.Running.{captured}
+use Rattle.m5_cps.specs.Captured.{captured}
 
 -- how many parts fill slots where the test holds, and where it does not
 abbrev pub parts_then : Test → ℕ
