@@ -13,7 +13,7 @@ use Rattle.m5_meaning.specs.Step.{is_full}
 use Rattle.m5_cps.specs.Blocks.{Straight, constant, one, two, unheld, unsham, spawn, Test, if_true, if_left, if_nil, if_here}
 use Rattle.m5_cps.specs.Values.{left, right, held, sham, cons, Value, atom, wrap, join, enter, Item, Site, SiteNext, unit_value, text_value}
 use Rattle.m5_cps.specs.Units.{leaf_units}
-pub use Rattle.m5_cps.specs.Made.{Made, gives, makes_text, makes_cell, loads, stores, fails, first_of, second_of, text_of, divided, at_cell, made_by_one, operated, made_by_two, one_units, two_units}
+use Rattle.m5_cps.specs.Made.{Made, gives, makes_text, makes_cell, loads, stores, fails, made_by_one, made_by_two, one_units, two_units}
 
 -- what stands where a block makes an object: the units with it, and the threads, cells and handlers
 pub record Point : Type 0 where

@@ -15,7 +15,7 @@ use Rattle.m5_typing.specs.Rules.{Pick, unary_rule, binary_rule}
 use Rattle.m5_typing.specs.Typing.{Typed}
 use Rattle.m5_cps.specs.Entries.{SlotType, of, takes, Mode, only, everywhere, world_of, entry_mode, entry_type, entry_filled}
 use Rattle.m5_cps.specs.Blocks.{Straight, constant, one, two, unheld, unsham, spawn, if_true, if_left, if_nil, if_here, Ending, go, call, ask, send, done, Code, straight, closure, test, ends}
-use Rattle.m5_cps.specs.Running.{uses}
+use Rattle.m5_cps.specs.Captured.{uses}
 use Rattle.m5_cps.specs.Slots.{Slots, fill, Needs, HasType, Allowed, entry_slots, Captures}
 
 abbrev pub IsOnly : Mode → Type 0

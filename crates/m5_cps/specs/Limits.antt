@@ -2,7 +2,7 @@
 use Rattle.std.specs.Prelude.{ℕ, suc, ◌+◌, ◌≤◌, max}
 use Rattle.m5_cps.specs.Entries.{Entry, entry_filled}
 use Rattle.m5_cps.specs.Blocks.{Test, if_left, if_nil, Code, straight, closure, test, ends}
-use Rattle.m5_cps.specs.Running.{captured}
+use Rattle.m5_cps.specs.Captured.{captured}
 
 -- how many parts fill slots where the test holds, and where it does not
 abbrev pub parts_then : Test → ℕ
@@ -14,12 +14,12 @@ parts_else if_left = 1
 parts_else if_nil = 2
 parts_else _ = 0
 
--- how many tests stand in one another
+-- how many endings are open at once, tests among them
 abbrev pub depth : Code → ℕ
 depth (straight f c) = depth c
 depth (closure y b c) = depth c
 depth (test t x b c) = suc (max (depth b) (depth c))
-depth (ends e) = 0
+depth (ends e) = 1
 
 -- how many slots are filled along the longest path
 abbrev pub path : Code → ℕ

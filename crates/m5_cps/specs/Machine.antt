@@ -12,7 +12,8 @@ use Rattle.m5_cps.specs.Blocks.{Blocks}
 use Rattle.m5_cps.specs.Values.{closed, enter, unit_value}
 use Rattle.m5_cps.specs.Values as value
 use Rattle.m5_cps.specs.Deeds.{Point, Ran, makes, ends}
-use Rattle.m5_cps.specs.Running.{over, Item, Thread, Site, no_values, ran, site_next}
+use Rattle.m5_cps.specs.Captured.{over, Item, Thread, Site}
+use Rattle.m5_cps.specs.Running.{no_values, ran, site_next}
 
 -- any answer may come: what a pass needs to know of answers stands in its reading
 abbrev pub blocks_machine : Blocks → World → Machine

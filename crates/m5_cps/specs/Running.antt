@@ -13,7 +13,7 @@ use Rattle.m5_cps.specs.Values.{atom, wrap, join, closed, enter, SiteNext, unit_
 use Rattle.m5_cps.specs.Units.{closure_units}
 use Rattle.m5_cps.specs.Deeds.{Ran, makes, ends, taking, stops_full, performed, tested}
 use Rattle.m5_cps.specs.Asks.{ended, after_take}
-pub use Rattle.m5_cps.specs.Captured.{Closure, over, Value, Thread, Item, Site, straight_uses, ending_uses, uses, sum_used, captured, value_units}
+use Rattle.m5_cps.specs.Captured.{Closure, over, Value, Thread, Site, captured, value_units}
 
 -- a block's run, up to what its ending makes of the site; n slots are filled, and s is the site without the thread that runs
 abbrev pub run : World → Code → ℕ → (ℕ → Value) → Site → Ran Closure

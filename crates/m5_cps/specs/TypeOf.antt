@@ -14,7 +14,7 @@ use Rattle.m5_terms.specs.declared.form.TernaryForm.{TernaryForm}
 use Rattle.m5_terms.specs.declared.form.TernaryForm.TheVariants as ternary_form
 use Rattle.m5_typing.specs.Context.{Bound, local, valid, Context, Setting, with_all}
 use Rattle.m5_typing.specs.Typing.{part_context}
-pub use Rattle.m5_cps.specs.TypeParts.{bound_type, first_of, second_of, result_of, content_of, place_of, cell_type, leaf_type, unary_whole, binary_whole}
+use Rattle.m5_cps.specs.TypeParts.{first_of, second_of, content_of, place_of, leaf_type, unary_whole, binary_whole}
 
 abbrev pub unary_bounds : UnaryForm → World → List Bound
 unary_bounds (unary_form.Fn x A) w = local w A ∷ []

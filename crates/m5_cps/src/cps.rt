@@ -1,11 +1,11 @@
 //! A program of blocks, in one table.
 
-ghost use Rattle.std.specs.Prelude.{◌≡◌, ◌<◌, length, slice_get, Some};
+ghost use Rattle.std.specs.Prelude.{◌≡◌, ◌<◌, length};
 ghost use Rattle.std.specs.List.{AllByRecursion as Each};
 ghost use Rattle.m5_cps.specs.Blocks.{Blocks};
 ghost use Rattle.m5_cps.specs.Program.{IsProgram};
 ghost use Rattle.m5_cps.specs.code.Steps.{entry_of};
-ghost use Rattle.m5_cps.specs.code.Written.{place, start, IsEntry};
+ghost use Rattle.m5_cps.specs.code.Written.{place, start};
 ghost use Rattle.m5_cps.specs.code.Tables.{block_entry, blocks_of, HasCode, HasBlock, IsFinished, IsTableOf, Shows};
 
 use crate::draft::Draft;
@@ -57,7 +57,7 @@ impl Cps {
         }
     }
 
-    /// Its blocks are a program's. The call does nothing.
+    /// Its blocks are a program's, and code stands where those of the functions and of main begin. The call does nothing.
     pub fn is_program(&self)
         ensures program { IsProgram (blocks_of self.now) }
         ensures functions { Each (HasBlock self.now.written) self.now.functions }

@@ -15,7 +15,7 @@ use std::alloc::{AllocError, Global};
 use std::marker::Model;
 
 /// The place of a label that is not placed.
-pub const NOWHERE: usize = 18446744073709551615;
+const NOWHERE: usize = usize::MAX;
 
 /// The steps that are written so far, the labels that they name and the blocks of which they make closures. After an error it
 /// is of no more use.
@@ -44,7 +44,7 @@ impl Model for Draft {
 impl Draft {
     /// Nothing is written yet; the types by number are given.
     pub fn new(alloc: Global, types: Types) -> Draft
-        ensures { (here result ≡ 0) × (result.types ≡ types) }
+        ensures { result ≡ record { steps = []; places = []; blocks = []; types = types } }
     {
         Draft {
             steps: Vec::new(alloc),
@@ -52,6 +52,13 @@ impl Draft {
             blocks: Vec::new(alloc),
             types,
         }
+    }
+
+    /// The types by number.
+    pub fn types(&self) -> &Types
+        ensures { result.now ≡ self.now.types }
+    {
+        &self.types
     }
 
     /// A new label, which is not placed.

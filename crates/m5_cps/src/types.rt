@@ -1,6 +1,6 @@
 //! Types by number, each written once: its parts stand before it, so that types share their parts.
 
-ghost use Rattle.std.specs.Prelude.{◌≡◌, ◌<◌, [], ◌∷◌, ◌++◌, length, slice_get, Some, IfOk, OnOk, OnErr, IfErr};
+ghost use Rattle.std.specs.Prelude.{◌≡◌, ◌<◌, [], ◌∷◌, ◌++◌, length, slice_get, Some, IfOk, OnOk, OnErr};
 ghost use Rattle.m5_cps.specs.code.Types.{row_type, IsRow, HasType, HasRow, HaveTypes};
 
 use m5_terms::types::{Shape, Ty, TypeBox, World};

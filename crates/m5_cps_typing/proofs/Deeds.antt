@@ -19,7 +19,8 @@ use Rattle.m5_site_sound.specs.Settings.{Grows, GrowsAt}
 use Rattle.m5_site_sound.proofs.Growth.{longer, longer-at, longer-own, own-self, own-on}
 use Rattle.m5_cps.specs.Entries.{SlotType, of, takes, Mode, only, everywhere, world_of}
 use Rattle.m5_cps.specs.Values.{Value, atom, Thread, enter, call, Item, Site, SiteNext}
-use Rattle.m5_cps.specs.Deeds.{Made, gives, makes_text, makes_cell, loads, stores, fails, Ran, makes, ends, after_stop, stops_full, loaded, stored, did}
+use Rattle.m5_cps.specs.Made.{Made, gives, makes_text, makes_cell, loads, stores, fails}
+use Rattle.m5_cps.specs.Deeds.{Ran, makes, ends, after_stop, stops_full, loaded, stored, did}
 use Rattle.m5_cps_typing.specs.States.{at_site, Holds, ClosureTyping, ValueFits, ThreadFits, CellsFit, HandlerFits, SiteFits, AnswersFit, IsFitNext, NextFits, RanFits}
 use Rattle.m5_cps_typing.proofs.Worlds.{ClosureLaws, value_grown}
 

@@ -15,7 +15,8 @@ use Rattle.m5_terms.specs.declared.form.TernaryForm.TheVariants as ternary_form
 use Rattle.m5_typing.specs.Context.{Bound, local, valid, Context, Setting, with_all, IsKnownAt}
 use Rattle.m5_typing.specs.Rules.{LeafRule, Pick, unary_rule, binary_rule, ternary_rule}
 use Rattle.m5_typing.specs.Typing.{Typed, UnaryTyped, BinaryTyped, part_context}
-use Rattle.m5_cps.specs.TypeOf.{bound_type, first_of, second_of, result_of, content_of, place_of, cell_type, leaf_type, unary_whole, unary_bounds, unary_world, second_world, second_bounds, binary_whole, second_arm_bounds, third_arm_bounds, type_of}
+use Rattle.m5_cps.specs.TypeParts.{bound_type, first_of, second_of, result_of, content_of, place_of, cell_type, leaf_type, unary_whole, binary_whole}
+use Rattle.m5_cps.specs.TypeOf.{unary_bounds, unary_world, second_world, second_bounds, second_arm_bounds, third_arm_bounds, type_of}
 
 known_found : (o : Option Bound) (w : World) (A : TypeExpression) → IsKnownAt o w A → bound_type o ≡ A
 known_found o w A (inl e) = ap bound_type e.1

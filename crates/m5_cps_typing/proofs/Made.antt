@@ -20,7 +20,7 @@ use Rattle.m5_site_sound.proofs.TextBytes.{text-append, signed-text}
 use Rattle.m5_cps.specs.Entries.{SlotType, of, Mode, only, everywhere, world_of}
 use Rattle.m5_cps.specs.Values.{left, right, held, pair, cons, Value, atom, wrap, join, closed, Thread, enter, call, Item, thread, raw, Site, SiteNext, unit_value, text_value, put, put_all, filled_by}
 use Rattle.m5_cps.specs.Values as value
-use Rattle.m5_cps.specs.Deeds.{gives, loads, stores, fails, divided, at_cell, operated, made_by_one, made_by_two}
+use Rattle.m5_cps.specs.Made.{gives, loads, stores, fails, divided, at_cell, operated, made_by_one, made_by_two}
 use Rattle.m5_cps.specs.Fits.{IsStraightOne, IsStraightTwo, part_mode, no_part}
 use Rattle.m5_cps_typing.specs.States.{at_site, Holds, ClosureTyping, ValueFits}
 use Rattle.m5_cps_typing.proofs.Worlds.{ClosureLaws, real_stays}

@@ -21,7 +21,7 @@ use Rattle.m5_cps.specs.Blocks as block
 use Rattle.m5_cps.specs.Values.{put}
 use Rattle.m5_cps.specs.Slots.{slot, Slots, fill, Needs, Allowed, Captures, entry_slots}
 use Rattle.m5_cps.specs.Fits.{IsStraightOne, IsStraightTwo, part_mode, no_part, StraightFits, Chosen, Fits}
-use Rattle.m5_cps.specs.TypeOf.{leaf_type, unary_whole, binary_whole, content_of, first_of, second_of, place_of}
+use Rattle.m5_cps.specs.TypeParts.{leaf_type, unary_whole, binary_whole, content_of, first_of, second_of, place_of}
 use Rattle.m5_cps_typing.specs.Rows.{Kinds, source_type, entry_kinds, straight_type, rows, Known, RowFits}
 use Rattle.m5_cps_typing.proofs.Found.{found}
 

@@ -14,7 +14,8 @@ use Rattle.m5_cps.specs.Deeds.{tested}
 use Rattle.m5_cps.specs.Slots.{Slots, fill, is_mobile, Needs, Captures, entry_slots}
 use Rattle.m5_cps.specs.Fits.{Chosen, Fits}
 use Rattle.m5_cps_typing.specs.States.{at_site, Holds, SlotsFit, Stands, ValueFits, SiteFits, RanFits}
-use Rattle.m5_cps.specs.Running.{Closure, over, captured, run}
+use Rattle.m5_cps.specs.Captured.{Closure, over, captured}
+use Rattle.m5_cps.specs.Running.{run}
 use Rattle.m5_cps_typing.specs.Closures.{ClosureFits}
 use Rattle.m5_cps_typing.proofs.Worlds.{ClosureLaws, stands_at, at_site_stands, holds_map, Env, needed_here, holds_here, slots_put, slots_grown, captured_fit}
 use Rattle.m5_cps_typing.proofs.Shapes.{shape}

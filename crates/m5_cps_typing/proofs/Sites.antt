@@ -21,7 +21,8 @@ use Rattle.m5_cps.specs.Asks.{handler_thread, handler_threads, after_take}
 use Rattle.m5_cps.specs.Slots.{Slots, no_slots, fill, entry_slots, entered_at}
 use Rattle.m5_cps.specs.Fits.{Fits}
 use Rattle.m5_cps_typing.specs.States.{SlotsFit, Stands, ValueFits, ThreadFits, HandlerFits, SiteFits, AnswersFit, NextFits, RanFits}
-use Rattle.m5_cps.specs.Running.{Closure, over, Entered, no_values, entered_by, declared_block, called_by, resolved, started, finish, front, ran, last, site_next, value_units}
+use Rattle.m5_cps.specs.Captured.{Closure, over, value_units}
+use Rattle.m5_cps.specs.Running.{Entered, no_values, entered_by, declared_block, called_by, resolved, started, finish, front, ran, last, site_next}
 use Rattle.m5_cps_typing.specs.Closures.{ClosureFits}
 use Rattle.m5_cps_typing.proofs.Worlds.{Env, holds_here, slots_put}
 use Rattle.m5_cps_typing.proofs.Deeds.{at_once, stop_fits, site_grown}

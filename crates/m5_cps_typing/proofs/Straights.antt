@@ -17,7 +17,8 @@ use Rattle.m5_cps.specs.Entries.{SlotType, of, takes, Mode, only, everywhere, wo
 use Rattle.m5_cps.specs.Blocks.{Straight, constant, one, two, unheld, unsham, spawn}
 use Rattle.m5_cps.specs.Values.{Value, enter, Site, unit_value}
 use Rattle.m5_cps.specs.Units.{leaf_units}
-use Rattle.m5_cps.specs.Deeds.{made_by_one, made_by_two, one_units, two_units, Ran, taking_some, stops_full, constant_value, did, opened_held, opened_sham, performed}
+use Rattle.m5_cps.specs.Made.{made_by_one, made_by_two, one_units, two_units}
+use Rattle.m5_cps.specs.Deeds.{Ran, taking_some, stops_full, constant_value, did, opened_held, opened_sham, performed}
 use Rattle.m5_cps.specs.Slots.{Slots, Allowed}
 use Rattle.m5_cps.specs.Fits.{part_mode, StraightFits}
 use Rattle.m5_cps_typing.specs.States.{at_site, Holds, SlotsFit, Stands, ClosureTyping, ValueFits, ThreadFits, SiteFits, RanFits}

@@ -8,7 +8,7 @@ use Rattle.m5_cps.specs.Blocks.{Straight, constant, one, two, unheld, unsham, sp
 use Rattle.m5_cps.specs.Blocks as block
 use Rattle.m5_cps.specs.Slots.{slot, Slots, fill, Needs, HasType, entry_slots, entered_at}
 use Rattle.m5_cps.specs.Fits.{StraightFits, EndingFits, Fits}
-use Rattle.m5_cps.specs.Running.{straight_uses, ending_uses, uses}
+use Rattle.m5_cps.specs.Captured.{straight_uses, ending_uses, uses}
 
 either : (a b : Bool) → IsTrue (a || b) → IsTrue a ⊎ IsTrue b
 either true b h = inl refl

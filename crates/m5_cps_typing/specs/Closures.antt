@@ -4,7 +4,7 @@ use Rattle.m5_terms.specs.declared.types.World.{World}
 use Rattle.m5_typing.specs.Context.{Setting}
 use Rattle.m5_cps.specs.Entries.{SlotType, Entry, world_of, entry_mode, entry_type, entry_filled}
 use Rattle.m5_cps.specs.Blocks.{Code}
-use Rattle.m5_cps.specs.Running.{Closure, over}
+use Rattle.m5_cps.specs.Captured.{Closure, over}
 use Rattle.m5_cps.specs.Slots.{Slots, entry_slots}
 use Rattle.m5_cps.specs.Fits.{Fits}
 use Rattle.m5_cps_typing.specs.States.{SlotsFit, Stands, ClosureTyping}

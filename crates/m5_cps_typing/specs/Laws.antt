@@ -11,7 +11,8 @@ use Rattle.m5_typing.specs.Context.{CellTypes, Context, Setting}
 use Rattle.m5_typing.specs.Typing.{Typed}
 use Rattle.m5_cps.specs.Entries.{of, Mode}
 use Rattle.m5_cps.specs.Blocks.{ask, send, Code, ends, Blocks}
-use Rattle.m5_cps.specs.Running.{Site, uses, site_next}
+use Rattle.m5_cps.specs.Captured.{Site, uses}
+use Rattle.m5_cps.specs.Running.{site_next}
 use Rattle.m5_cps.specs.Machine.{opening_site, opening_threads}
 use Rattle.m5_cps.specs.Slots.{slot, Slots, HasType}
 use Rattle.m5_cps.specs.Fits.{Fits}

@@ -8,7 +8,7 @@ use Rattle.m5_cps.specs.Blocks.{Straight, constant, one, two, unheld, unsham, sp
 use Rattle.m5_cps.specs.Values.{put}
 use Rattle.m5_cps.specs.Slots.{slot, Slots, entry_slots}
 use Rattle.m5_cps.specs.Fits.{Fits}
-use Rattle.m5_cps.specs.TypeOf.{leaf_type, unary_whole, binary_whole, content_of, first_of, second_of, place_of}
+use Rattle.m5_cps.specs.TypeParts.{leaf_type, unary_whole, binary_whole, content_of, first_of, second_of, place_of}
 
 abbrev pub Kinds : Type 0
 Kinds = ℕ → SlotType

@@ -73,7 +73,6 @@ module _ {C : Type 0} (K : ClosureTyping C) (F : Setting) where
   abbrev pub SiteFits : CellTypes → World → Site C → Type 0
   SiteFits L u s = Each (ThreadFits L u) s.threads × CellsFit L u s.cells (L u) × Each (HandlerFits L u) s.handlers
 
-  -- raw bytes have no type
   abbrev pub ItemFits : CellTypes → World → Item C → Type 0
   ItemFits L u (thread t) = ThreadFits L u t
   ItemFits L u (raw bytes) = Unit {0}
@@ -99,7 +98,7 @@ module _ {C : Type 0} (K : ClosureTyping C) (F : Setting) where
   ReplyFits L u (answer.Event e ns t) = IsText e × IsText t
   ReplyFits L u _ = Unit {0}
 
-  -- each answer of a kind that the ask may get, if it is typed, makes a typed site, also when other sites have made cells meanwhile
+  -- each typed answer of a kind that the ask may get makes a typed site, also when other sites have made cells meanwhile
   abbrev pub AnswersFit : CellTypes → World → AskOf (Item C) → (AnswerOf (Item C) → Option (Site C)) → Type 0
   AnswersFit L u q resume = (M : CellTypes) (r : AnswerOf (Item C)) → Grows L M → M u ≡ L u → IsAnswer q r → ReplyFits M u r → (x : Site C) × (resume r ≡ Some x) × SiteFits M u x
 

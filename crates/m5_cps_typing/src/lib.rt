@@ -1,4 +1,4 @@
-//! What is known of sites of typed blocks: they go on typed and are never wrong, and types of slots are read off the code.
+//! Sites of typed blocks go on typed and are never wrong, and types of slots are read off the code.
 #![tactic(auto)]
 
 pub mod laws;
