@@ -14,31 +14,31 @@ use Rattle.m5_terms.specs.declared.form.BinaryForm.TheVariants as binary_form
 use Rattle.m5_terms.specs.declared.form.TernaryForm.{TernaryForm}
 use Rattle.m5_terms.specs.declared.form.TernaryForm.TheVariants as ternary_form
 use Rattle.m5_cps.specs.Entries.{of, takes, only, Entry, by_value}
-use Rattle.m5_cps.specs.Blocks.{Code, straight, closure, test}
+use Rattle.m5_cps.specs.Blocks.{Code, straight, closure, test, Straight, Test, if_here, go, call, ask, send}
 use Rattle.m5_cps.specs.Blocks as block
 use Rattle.m5_cps_convert.specs.Scopes.{Scope, bind, in_block, in_arm, in_sham, fn_scope, rec_scope}
 use Rattle.m5_cps_convert.specs.Continuations.{Tail, Then, apply, reify, variable_code, body_code, goal_code, start_code}
 use Rattle.m5_cps_convert.specs.Convert.{cps}
 use Rattle.m5_terms.specs.Expression.{node_count}
 use Rattle.m5_typing.specs.Context.{Setting}
-use Rattle.m5_cps.specs.Blocks.{Straight, Test, if_here, go, call, ask, send}
 use Rattle.m5_cps.specs.Limits.{parts_then, parts_else, depth, path}
 use Rattle.m5_cps_convert.specs.Counted.{blocks_in}
 use Rattle.m5_cps_convert.specs.Continuations.{Continuation, constant_code, arm_code, thread_end}
 use Rattle.m5_cps_convert.specs.Forms.{unary_rest, back_code, get_value, get_variable, get_code, variable_of}
 use Rattle.m5_cps_convert.specs.Convert.{called_directly, binary_rest, binary_code, ternary_rest}
 
--- each closure's block nests at most D deep and fills at most L slots on a path
+-- each closure's block has at most D endings open at once and fills at most L slots on a path
 abbrev pub Inner : ℕ → ℕ → Code → Type 0
 Inner D L (straight f c) = Inner D L c
 Inner D L (closure y b c) = (depth b ≤ D) × (path b ≤ L) × Inner D L b × Inner D L c
 Inner D L (test t x b c) = Inner D L b × Inner D L c
 Inner D L (block.ends e) = Unit {0}
 
+-- such code: blocks, slots along a path, and tests that nest, where the last of them ends
 pub record Small (D L : ℕ) (c : Code) (a p d : ℕ) : Type 0 where
   pub blocks : blocks_in c ≤ a
   pub path : path c ≤ p
-  pub depth : depth c ≤ d
+  pub depth : depth c ≤ suc d
   pub inner : Inner D L c
 
 node_least : (e : Expression) → 1 ≤ node_count e
@@ -63,14 +63,11 @@ less_than : (n m : ℕ) → nat_lt n m ≡ true → n < m
 less_than n m e = grind (arith, e)
 
 module _ (L : ℕ) where
-  abbrev D : ℕ
-  D = 501
-
   abbrev S : Code → ℕ → ℕ → ℕ → Type 0
-  S = Small 501 L
+  S = Small 502 L
 
   abbrev pub KSmall : Continuation → ℕ → ℕ → ℕ → Type 0
-  KSmall κ a p d = (x m : ℕ) → Small 501 L (apply κ x m) a p d
+  KSmall κ a p d = (x m : ℕ) → Small 502 L (apply κ x m) a p d
 
   at_most : {c : Code} {a p d : ℕ} (a1 p1 d1 : ℕ) → S c a p d → a ≤ a1 → p ≤ p1 → d ≤ d1 → S c a1 p1 d1
   at_most a1 p1 d1 s h g k = record { blocks = omega (arith, s.blocks, h); path = omega (arith, s.path, g); depth = omega (arith, s.depth, k); inner = s.inner }
@@ -88,7 +85,7 @@ module _ (L : ℕ) where
   closed_over s h g t = record { blocks = omega (arith, s.blocks, t.blocks); path = omega (arith, t.path); depth = t.depth; inner = (omega (arith, s.depth, h), omega (arith, s.path, g), s.inner, t.inner) }
 
   two_ways : {t : Test} {x : ℕ} {b c : Code} {a a1 p d : ℕ} → S b a p d → S c a1 p d → S (test t x b c) (a + a1) (2 + p) (suc d)
-  two_ways {t} {x} {b} {c} {a} {a1} {p} {d} s r = record { blocks = omega (arith, s.blocks, r.blocks); path = max-le {a = parts_then t + path b} {b = parts_else t + path c} {k = 2 + p} (omega (arith, then_few t, s.path)) (omega (arith, else_few t, r.path)); depth = deeper (depth b) (depth c) d s.depth r.depth; inner = (s.inner, r.inner) }
+  two_ways {t} {x} {b} {c} {a} {a1} {p} {d} s r = record { blocks = omega (arith, s.blocks, r.blocks); path = max-le {a = parts_then t + path b} {b = parts_else t + path c} {k = 2 + p} (omega (arith, then_few t, s.path)) (omega (arith, else_few t, r.path)); depth = deeper (depth b) (depth c) (suc d) s.depth r.depth; inner = (s.inner, r.inner) }
     where
       deeper : (m n d : ℕ) → m ≤ d → n ≤ d → suc (max m n) ≤ suc d
       deeper m n d h g = omega (arith, max-le {a = m} {b = n} {k = d} h g)
@@ -99,7 +96,7 @@ module _ (L : ℕ) where
 
   module _ (E : Setting) where
     abbrev pub SmallAt : Expression → Type 0
-    SmallAt e = (Γ : Scope) (n : ℕ) (κ : Continuation) (a p d : ℕ) → KSmall κ a p d → 1 ≤ d → d ≤ 501 → 501 ≤ d + Γ.arms → p + 3 * node_count e ≤ L → Small 501 L (cps E e Γ n κ) (3 * node_count e + a) (3 * node_count e + p) d
+    SmallAt e = (Γ : Scope) (n : ℕ) (κ : Continuation) (a p d : ℕ) → KSmall κ a p d → 1 ≤ d → d ≤ 501 → 501 ≤ d + Γ.arms → p + 3 * node_count e ≤ L → Small 502 L (cps E e Γ n κ) (3 * node_count e + a) (3 * node_count e + p) d
 
     -- blocks of their own
     body_small : (e : Expression) → SmallAt e → (Γ : Scope) (n : ℕ) → Γ.arms ≡ 0 → 3 * node_count e ≤ L → S (body_code (cps E e) Γ n) (3 * node_count e) (3 * node_count e) 501

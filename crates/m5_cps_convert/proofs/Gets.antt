@@ -64,7 +64,7 @@ module _ (P : Program) (u : World) (site : IsSiteWorld u) where
         (subst (λ y. Meets P u (run u (get_goal (T1 a b Γ) (V1 a Γ) x (cps (setting P) b) Γ k n) n ρ t) (src s y (Returned w v))) (sym fr.is)
         (object_made P u site 1 0 0 (closure_units (captured n g)) t s fs0 (Returned w v) _ h (least P u (src s fs0 (Returned w v))) (omega (arith, nr1.0)) (λ t1 h1.
         goal_head P u site (T1 a b Γ) (V1 a Γ) k t1 s fr.below fr.world w (close fr.values a) b1 (stands_here u fr.world (binary binary_form.Get a b) refl fr.stands) n n ρ1 (has_on k (SKont u fr.below) (put_grows P ρ n c) fr.rest) (put_has P ρ n c (SGoal b1) rg)
-        (subst (λ d. Rattle.m5_cps.specs.Running.value_units d + 2 ≤ 4 * Rattle.m5_terms.specs.Size.node_size b1) (sym (put_same n c ρ)) (goal_light P n (only (V1 a Γ)) (takes (of (T1 a b Γ))) ρ (in_block (only (V1 a Γ)) Γ) fr.values b fr.fits no_name)) x (omega (arith, has.0)) (lent (closure_room P u site) h1 (omega (arith, nr1.0))) nr1.2.2 (head_of P (put n c ρ x) v (subst (λ d. Reads P d (SVal v)) (sym other) has.1)) refl)));
+        (subst (λ d. Rattle.m5_cps.specs.Captured.value_units d + 2 ≤ 4 * Rattle.m5_terms.specs.Size.node_size b1) (sym (put_same n c ρ)) (goal_light P n (only (V1 a Γ)) (takes (of (T1 a b Γ))) ρ (in_block (only (V1 a Γ)) Γ) fr.values b fr.fits no_name)) x (omega (arith, has.0)) (lent (closure_room P u site) h1 (omega (arith, nr1.0))) nr1.2.2 (head_of P (put n c ρ x) v (subst (λ d. Reads P d (SVal v)) (sym other) has.1)) refl)));
   }
 
   -- the body's value is in a slot

@@ -9,7 +9,7 @@ use Rattle.m5_meaning.specs.Site as meaning
 use Rattle.m5_meaning.specs.Step.{step_weight, thread_of, outcome}
 use Rattle.m5_meaning.specs.Step as meaning_step
 use Rattle.m5_cps.specs.Entries.{only}
-use Rattle.m5_cps.specs.Deeds.{Ran, ends}
+use Rattle.m5_cps.specs.Deeds.{Ran, ends, Point, makes, stops_full}
 use Rattle.m5_cps.specs.Captured.{Closure, Thread, Site}
 use Rattle.m5_cps_convert.specs.Threads.{ReadsThreads, ReadsState}
 use Rattle.m5_terms.specs.Machine.{Comes, GoesWrong}
@@ -21,7 +21,6 @@ use Rattle.m5_typing.specs.Program.{IsProgram}
 use Rattle.m5_meaning.specs.Opening as meaning_opening
 use Rattle.m5_site_sound.specs.SourceMachine.{source_machine}
 use Rattle.m5_site_sound.proofs.Counts.{CountsOne, next-counts}
-use Rattle.m5_cps.specs.Deeds.{Point, makes, stops_full}
 use Rattle.m5_cps.specs.Running.{front, ran}
 use Rattle.m5_cps.specs.Machine.{blocks_machine, blocks_moments, Making, point_of, is_entering, opening_site, opening_threads}
 use Rattle.m5_cps_convert.specs.Convert.{program_blocks}

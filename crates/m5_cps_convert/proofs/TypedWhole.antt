@@ -12,7 +12,7 @@ use Rattle.m5_terms.specs.declared.form.TernaryForm.{TernaryForm}
 use Rattle.m5_terms.specs.declared.form.TernaryForm.TheVariants as ternary_form
 use Rattle.m5_typing.specs.Context.{local, Setting, nothing, with}
 use Rattle.m5_typing.proofs.Mobile.{both-left, both-right}
-use Rattle.m5_cps.specs.Entries.{only, by_call}
+use Rattle.m5_cps.specs.Entries.{only, by_call, main_entry}
 use Rattle.m5_cps.specs.Values.{put}
 use Rattle.m5_cps.specs.Slots.{no_slots, entry_slots}
 use Rattle.m5_cps.specs.Fits.{Fits}
@@ -23,7 +23,6 @@ use Rattle.m5_terms.specs.InText.{unary_in_text}
 use Rattle.m5_typing.specs.Program.{in_text, ProgramTerm, IsProgram, FunctionTyped, declared_bound, bound_at}
 use Rattle.m5_typing.specs.Program as source
 use Rattle.m5_typing.specs.declared.functions.Function.{Function}
-use Rattle.m5_cps.specs.Entries.{main_entry}
 use Rattle.m5_cps.specs.Program as blocks
 use Rattle.m5_cps_convert.specs.Convert.{function_code, function_block, main_code, program_blocks}
 use Rattle.m5_cps_convert.proofs.TypedForms.{fst_fit, snd_fit, text_fit, div_fit, new_fit, load_fit, hold_fit, inl_fit, inr_fit, sham_fit, pair_fit, cons_fit, store_fit, operator_fit}
