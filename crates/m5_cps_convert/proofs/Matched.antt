@@ -1,5 +1,5 @@
 -- The blocks' site matches the source's, its moments are paid for, and it begins where the source's does.
-use Rattle.std.proofs.Common.{◌≡◌, ℕ, zero, suc, ◌+◌, ◌*◌, ◌≤◌, ◌⊎◌, inl, inr, List, Bool, true, false, refl, sym, subst, arith, if◌then◌else◌, true≢false}
+use Rattle.std.proofs.Common.{◌≡◌, ℕ, zero, suc, ◌+◌, ◌*◌, ◌≤◌, ◌⊎◌, inl, inr, List, [], Bool, true, false, refl, sym, subst, arith, if◌then◌else◌, true≢false}
 use Rattle.m5_terms.specs.Machine.{goes, asks, wrong}
 use Rattle.m5_terms.specs.Worlds.{IsSiteWorld}
 use Rattle.m5_terms.specs.declared.types.World.{World}
@@ -16,17 +16,21 @@ use Rattle.m5_terms.specs.Machine.{Comes, GoesWrong}
 use Rattle.m5_terms.specs.Matching.{Matches, Reaches, MeetsAt, AreMet}
 use Rattle.m5_terms.specs.declared.types.World.TheVariants.{Home, Server, Panel}
 use Rattle.m5_terms.proofs.SiteWorlds.{is-real}
-use Rattle.m5_terms.proofs.Played.{plays-always}
+use Rattle.m5_terms.proofs.Played.{plays-always, plays-fully}
+use Rattle.m5_terms.specs.TypeExpression.{unit}
 use Rattle.m5_typing.specs.Program.{IsProgram}
 use Rattle.m5_meaning.specs.Opening as meaning_opening
 use Rattle.m5_site_sound.specs.SourceMachine.{source_machine}
+use Rattle.m5_site_sound.specs.Settings.{setting}
+use Rattle.m5_site_sound.specs.Sites.{SiteTyped}
+use Rattle.m5_site_sound.proofs.Soundness.{sites-are-sound}
 use Rattle.m5_site_sound.proofs.Counts.{CountsOne, next-counts}
 use Rattle.m5_cps.specs.Running.{front, ran}
 use Rattle.m5_cps.specs.Machine.{blocks_machine, blocks_moments, Making, point_of, is_entering, opening_site, opening_threads}
 use Rattle.m5_cps_convert.specs.Convert.{program_blocks}
 use Rattle.m5_cps_convert.specs.Scopes.{empty_scope}
 use Rattle.m5_cps_convert.specs.Moments.{readback, source_moments, IsPaid, paid}
-use Rattle.m5_cps_convert.specs.Laws.{BlocksPlay, BlocksOpen, SentIsLight}
+use Rattle.m5_cps_convert.specs.Laws.{BlocksPlay, BlocksOpen, OpeningsPlayFully, SentIsLight}
 use Rattle.m5_cps_convert.proofs.Meets.{Weighs, AtPoint, WrongMet, PointMet, NextMet, Meets}
 use Rattle.m5_cps_convert.proofs.Straight.{threads_long, values_long}
 use Rattle.m5_cps_convert.proofs.Entering.{units_everywhere}
@@ -108,6 +112,15 @@ opens P Any d i = absurd (is-real Any i refl)
 
 pub plays : BlocksPlay
 plays P u t s d i r = plays-always (source_machine P u) (blocks_machine (program_blocks P) u) (readback P u) (source_moments P u) (blocks_moments (program_blocks P) u) (paid P u) (matches P u d i) (all_met P u d i) t s r
+
+opening_typed : (P : Program) → IsProgram P → (u : World) → SiteTyped (setting P (λ w. [])) u (meaning_opening.opening_site (meaning_opening.opening_threads P u))
+opening_typed P d Home = ((record { of = unit; stands = inl refl; typed = d.main; frames = refl }, tt), tt, tt)
+opening_typed P d _ = (tt, tt, tt)
+
+pub plays_fully : OpeningsPlayFully
+plays_fully P u d i = let t = opening_site (opening_threads (program_blocks P) u) in let s = meaning_opening.opening_site (meaning_opening.opening_threads P u) in
+    plays-fully (source_machine P u) (blocks_machine (program_blocks P) u) (readback P u) (source_moments P u) (blocks_moments (program_blocks P) u) (paid P u) t s
+        (sites-are-sound P (λ w. []) u s d (λ q. is-real u i q) (opening_typed P d u)) (plays P u t s d i (opens P u d i))
 
 pub light : SentIsLight
 light P v t s r = r.1

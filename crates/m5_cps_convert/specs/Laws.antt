@@ -1,7 +1,7 @@
 -- The laws of the conversion.
 use Rattle.std.specs.Prelude.{◌+◌, ◌≤◌, ◌*◌}
 use Rattle.m5_terms.specs.Matching.{Matches, AreMet}
-use Rattle.m5_terms.specs.Playing.{PlaysAlways}
+use Rattle.m5_terms.specs.Playing.{PlaysAlways, PlaysAlwaysFully}
 use Rattle.m5_terms.specs.Worlds.{IsSiteWorld}
 use Rattle.m5_terms.specs.declared.types.World.{World}
 use Rattle.m5_typing.specs.Program.{ProgramTerm, IsProgram, program_nodes}
@@ -39,6 +39,13 @@ abbrev pub BlocksOpen : Type 0
 BlocksOpen =
     (P : ProgramTerm) (u : World) → IsProgram P → IsSiteWorld u →
     ReadsState P u (opening_site (opening_threads (program_blocks P) u)) (meaning_opening.opening_site (meaning_opening.opening_threads P u))
+
+-- from there they play along with it with no other way out: they are never wrong, since the source is not
+abbrev pub OpeningsPlayFully : Type 0
+OpeningsPlayFully =
+    (P : ProgramTerm) (u : World) → IsProgram P → IsSiteWorld u →
+    PlaysAlwaysFully (source_machine P u) (blocks_machine (program_blocks P) u) (readback P u) (source_moments P u) (blocks_moments (program_blocks P) u) (paid P u)
+    (opening_site (opening_threads (program_blocks P) u)) (meaning_opening.opening_site (meaning_opening.opening_threads P u))
 
 -- what is sent, and so what arrives, takes at most four times the size of the source's thread
 abbrev pub SentIsLight : Type 0

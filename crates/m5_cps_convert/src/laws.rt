@@ -1,6 +1,6 @@
 //! The laws of the conversion, each on a function that does nothing.
 
-ghost use Rattle.m5_cps_convert.specs.Laws.{BlocksMatch, BlocksArePaid, BlocksPlay, BlocksOpen, SentIsLight, BlocksFit, BlocksAreFew};
+ghost use Rattle.m5_cps_convert.specs.Laws.{BlocksMatch, BlocksArePaid, BlocksPlay, BlocksOpen, OpeningsPlayFully, SentIsLight, BlocksFit, BlocksAreFew};
 
 /// At each world the blocks of a program go on as the program does: steps, asks, whatever lawful answers, and never wrong but
 /// where the program is.
@@ -21,6 +21,11 @@ pub fn blocks_play_holds()
 /// Each site of blocks begins where the source's does.
 pub fn blocks_open_holds()
     ensures { BlocksOpen }
+{}
+
+/// From its opening each site of blocks plays along with the source's, and never goes wrong.
+pub fn openings_play_fully_holds()
+    ensures { OpeningsPlayFully }
 {}
 
 /// A thread that is sent takes at most four times the size of the source's.
