@@ -1,0 +1,17 @@
+pub mod Entries
+pub mod Blocks
+pub mod Values
+pub mod Units
+pub mod Made
+pub mod Deeds
+pub mod Asks
+pub mod Captured
+pub mod Running
+pub mod Machine
+pub mod Slots
+pub mod Fits
+pub mod TypeParts
+pub mod TypeOf
+pub mod Limits
+pub mod Program
+pub mod code

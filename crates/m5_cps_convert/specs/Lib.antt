@@ -1,0 +1,14 @@
+pub mod Scopes
+pub mod Continuations
+pub mod Forms
+pub mod Convert
+pub mod Closing
+pub mod Proper
+pub mod Statics
+pub mod Slots
+pub mod Narrow
+pub mod Reading
+pub mod Threads
+pub mod Counted
+pub mod Moments
+pub mod Laws

@@ -1,0 +1,13 @@
+pub mod Worlds
+pub mod Shapes
+pub mod Deeds
+pub mod Made
+pub mod Asked
+pub mod Straights
+pub mod Endings
+pub mod Runs
+pub mod Sites
+pub mod Found
+pub mod Rows
+pub mod Used
+pub mod Refused

@@ -1,0 +1,4 @@
+pub mod States
+pub mod Closures
+pub mod Rows
+pub mod Laws
