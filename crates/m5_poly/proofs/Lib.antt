@@ -1,0 +1,7 @@
+pub mod Arguments
+pub mod Making
+pub mod Naming
+pub mod Reading
+pub mod Surveying
+pub mod Walking
+pub mod Writing

@@ -1,0 +1,5 @@
+pub mod Made
+pub mod Surveying
+pub mod Views
+pub mod Walking
+pub mod Writing
