@@ -1,3 +1,4 @@
+-- What the data stand for that the code keeps while it surveys, walks and writes.
 pub mod Made
 pub mod Surveying
 pub mod Views
