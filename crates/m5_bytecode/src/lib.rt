@@ -3,6 +3,7 @@
 
 pub mod code;
 mod encoding;
+mod lengths;
 mod lines;
 mod putting;
 #[cfg(test)]

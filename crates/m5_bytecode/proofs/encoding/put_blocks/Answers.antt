@@ -1,5 +1,5 @@
 use Rattle.std.proofs.Common.{arith, refl}
-use Rattle.m5_bytecode.proofs.Writing.{block_there}
+use Rattle.m5_machine.proofs.Walking.{block_there}
 use Rattle.m5_bytecode.proofs.encoding.put_blocks.Goals as goal
 
 pub put_block-requires-clause-body : goal.put_block-requires-clause-body
