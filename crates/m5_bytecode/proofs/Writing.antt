@@ -5,9 +5,11 @@ use Rattle.std.proofs.lemmas.Bool.{ne_eqb}
 use Rattle.std.proofs.lemmas.List.{take_at, drop_at, drop-drop}
 use Rattle.m5_machine.specs.declared.step.Instruction.{Instruction}
 use Rattle.m5_machine.specs.Body.{Body, Then, If, Go, Ask, Send, Done}
+use Rattle.std.specs.List.{flat_map}
+use Rattle.m5_machine.specs.Labelled.{blocks_of}
 use Rattle.m5_machine.specs.Blocks.{Flat, IsFlat, body_at, HasBody, start_in}
 use Rattle.m5_machine.specs.code.Running.{size}
-use Rattle.m5_bytecode.specs.Spelling.{two, four, instruction_bytes, body_bytes, block_bytes}
+use Rattle.m5_bytecode.specs.Spelling.{two, four, instruction_bytes, body_bytes, block_bytes, code_bytes}
 
 pub fill_bytes : (out new : List ℕ) (i : Instruction) (here next : Body) → here ≡ Then i next → new ≡ out ++ instruction_bytes i → new ++ body_bytes next ≡ out ++ body_bytes here
 unfolding body_bytes
@@ -77,3 +79,8 @@ done_bytes o0 o1 here e n = ends_bytes o0 o1 here Done e n
 
 pub block_whole : (o0 o1 o4 : List ℕ) (label : ℕ) (b : Body) → o1 ≡ o0 ++ two label → o4 ≡ o1 ++ (four (length (body_bytes b)) ++ body_bytes b) → o4 ≡ o0 ++ block_bytes (record { label = label; body = b })
 block_whole o0 o1 o4 label b e f = f ∙ ap (λ (x : List ℕ). x ++ (four (length (body_bytes b)) ++ body_bytes b)) e ∙ append_assoc o0 (two label) (four (length (body_bytes b)) ++ body_bytes b)
+
+pub code_whole : (o0 o1 o2 : List ℕ) (n : ℕ) (code : Flat) → o0 ≡ [] → o1 ≡ o0 ++ two n → n ≡ length (blocks_of code) → o2 ≡ o1 ++ flat_map block_bytes (blocks_of code) → o2 ≡ code_bytes code
+unfolding code_bytes
+code_whole o0 o1 o2 n code e f g h =
+    h ∙ ap (λ (x : List ℕ). x ++ flat_map block_bytes (blocks_of code)) (f ∙ ap (λ (x : List ℕ). x ++ two n) e ∙ ap two g)

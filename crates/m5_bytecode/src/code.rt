@@ -1,9 +1,9 @@
 //! A server's code.
 
-ghost use Rattle.std.specs.Prelude.{◌≡◌, length, IfSome, IfNone};
+ghost use Rattle.std.specs.Prelude.{◌≡◌, count_by, IfSome, IfNone};
 ghost use Rattle.std.specs.List.{list_all};
-ghost use Rattle.m5_machine.specs.Labelled.{blocks_of};
-ghost use Rattle.m5_bytecode.specs.Code.{server_instruction, server_step, IsServerCode};
+ghost use Rattle.m5_bytecode.specs.Server.{server_instruction, server_step, IsServerCode};
+ghost use Rattle.m5_bytecode.specs.code.Bodies.{has_block};
 
 use crate::lengths::{is_short, is_small};
 use m5_machine::blocks::{Blocks, NO_BLOCK};
@@ -19,7 +19,7 @@ pub struct Code {
 
 impl Model for Code {
     ghost use Rattle.m5_machine.specs.Blocks.{Flat};
-    ghost use Rattle.m5_bytecode.specs.Code.{IsServerCode};
+    ghost use Rattle.m5_bytecode.specs.Server.{IsServerCode};
 
     ghost Value = { Flat };
 
@@ -58,14 +58,11 @@ fn are_server_steps(steps: &[Step]) -> bool
     steps.iter().all(|step| is_server_step(step))
 }
 
-/// How many labels have a block.
-pub(crate) fn count_labels(code: &Blocks) -> usize
-    ensures { result ≡ length (blocks_of code.now) }
+/// How many of these places stand for a block.
+pub(crate) fn count_labels(starts: &[u32]) -> usize
+    ensures { result ≡ count_by has_block starts.now }
 {
-    code.starts()
-        .iter()
-        .filter(|start| **start != NO_BLOCK)
-        .count()
+    starts.iter().filter(|start| **start != NO_BLOCK).count()
 }
 
 impl Code {
@@ -84,7 +81,7 @@ impl Code {
         if blocks.starts().len() > 65536 {
             return None;
         }
-        if count_labels(&blocks) > 65535 {
+        if count_labels(blocks.starts()) > 65535 {
             return None;
         }
         if !is_short(&blocks) {

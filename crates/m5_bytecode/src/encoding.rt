@@ -6,7 +6,7 @@ ghost use Rattle.m5_machine.specs.Blocks.{HasBody, body_at};
 ghost use Rattle.std.specs.List.{flat_map};
 ghost use Rattle.m5_machine.specs.Labelled.{blocks_of};
 ghost use Rattle.m5_bytecode.specs.Spelling.{four, body_bytes, block_bytes, code_bytes};
-ghost use Rattle.m5_bytecode.specs.Code.{steps_length, IsServerCode};
+ghost use Rattle.m5_bytecode.specs.Server.{steps_length, IsServerCode};
 
 use crate::code::{Code, count_labels};
 use crate::putting::{put_byte, put_four, put_instruction, put_slot, put_slots, put_two};
@@ -105,7 +105,7 @@ pub fn encode(alloc: Global, code: &Code) -> Result<Text, AllocError>
 {
     let blocks = code.blocks();
     let mut out = Vec::new(alloc);
-    put_two(&mut out, count_labels(blocks) as u16)?;
+    put_two(&mut out, count_labels(blocks.starts()) as u16)?;
     put_blocks(blocks, &mut out)?;
     Text::of(alloc, out.as_slice())
 }

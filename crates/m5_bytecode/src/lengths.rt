@@ -2,7 +2,7 @@
 
 ghost use Rattle.std.specs.Prelude.{◌≡◌, ◌<◌, ◌^◌, length, nat_lt};
 ghost use Rattle.m5_machine.specs.Blocks.{HasBody, body_at, IsFlat};
-ghost use Rattle.m5_bytecode.specs.Code.{step_length, steps_length};
+ghost use Rattle.m5_bytecode.specs.Server.{step_length, steps_length};
 ghost use Rattle.m5_bytecode.specs.Spelling.{instruction_bytes, body_bytes, code_bytes};
 
 use m5_machine::blocks::{Blocks, NO_BLOCK};

@@ -2,13 +2,17 @@
 #![tactic(auto)]
 
 pub mod code;
+mod decoding;
 mod encoding;
+mod input;
 mod lengths;
 mod lines;
 mod putting;
+mod steps;
 #[cfg(test)]
 mod tests;
 mod words;
 
 pub use encoding::encode;
+pub use input::CodeEnd;
 pub use lines::listing;

@@ -2,7 +2,7 @@
 
 ghost use Rattle.std.specs.Prelude.{◌≡◌, ◌<◌, ◌^◌, ◌++◌, OnOk, IfOk};
 ghost use Rattle.m5_machine.specs.Blocks.{HasBody, body_at};
-ghost use Rattle.m5_bytecode.specs.Code.{steps_length, IsServerCode};
+ghost use Rattle.m5_bytecode.specs.Server.{steps_length, IsServerCode};
 ghost use Rattle.m5_bytecode.specs.Listing.{body_words, line_of, listing_of};
 
 use crate::code::Code;

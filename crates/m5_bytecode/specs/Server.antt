@@ -69,4 +69,4 @@ pub record IsServerCode (code : Flat) : Type 0 where
 pub record Spells (code : Flat) (bytes : List ℕ) : Type 0 where
   pub server : IsServerCode code
   pub numbers : All IsStep code.steps
-  pub bytes : code_bytes code ≡ bytes
+  pub spelled : code_bytes code ≡ bytes
