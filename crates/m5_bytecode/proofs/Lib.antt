@@ -4,3 +4,5 @@ pub mod Pieces
 pub mod Reading
 pub mod Bodies
 pub mod Reached
+pub mod Labels
+pub mod Whole

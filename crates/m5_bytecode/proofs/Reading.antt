@@ -33,12 +33,12 @@ take_back n xs rest e =
     ap (λ (t : Bool). if t then None else Some (take n (xs ++ rest), drop n (xs ++ rest))) enough
     ∙ ap (λ (x : List ℕ). Some (x, drop n (xs ++ rest))) (take_at xs rest n e) ∙ ap (λ (x : List ℕ). Some (xs, x)) (drop_at xs rest n e)
 
-two_back : (a : ℕ) (rest : List ℕ) → a < 2 ^ 16 → two_in (two a ++ rest) ≡ Some (a, rest)
+pub two_back : (a : ℕ) (rest : List ℕ) → a < 2 ^ 16 → two_in (two a ++ rest) ≡ Some (a, rest)
 two_back a rest h =
     ap (λ (r : Option (List ℕ × List ℕ)). and_read r (λ xs more. Some (from_be_bytes w16 xs, more))) (take_back 2 (two a) rest refl)
     ∙ ap (λ (n : ℕ). Some (n, rest)) (from_be_bytes-to_be_bytes_2 a h)
 
-four_back : (a : ℕ) (rest : List ℕ) → a < 2 ^ 32 → four_in (four a ++ rest) ≡ Some (a, rest)
+pub four_back : (a : ℕ) (rest : List ℕ) → a < 2 ^ 32 → four_in (four a ++ rest) ≡ Some (a, rest)
 four_back a rest h =
     ap (λ (r : Option (List ℕ × List ℕ)). and_read r (λ xs more. Some (from_be_bytes w32 xs, more))) (take_back 4 (four a) rest refl)
     ∙ ap (λ (n : ℕ). Some (n, rest)) (from_be_bytes-to_be_bytes_4 a h)

@@ -9,6 +9,8 @@ use Rattle.m5_machine.specs.declared.step.Step.TheVariants as steps
 use Rattle.m5_machine.specs.Blocks.{Flat, IsFlat}
 use Rattle.m5_machine.specs.Labelled.{blocks_of}
 use Rattle.m5_machine.specs.Numbers.{IsStep}
+use Rattle.m5_bytecode.specs.declared.input.CodeEnd.{CodeEnd}
+use Rattle.m5_bytecode.specs.declared.input.CodeEnd.TheVariants.{Bad, Memory}
 use Rattle.m5_bytecode.specs.Spelling.{instruction_bytes, code_bytes}
 
 -- a server's instructions: each text is one that a program's text may be, and `Same` is none
@@ -70,3 +72,8 @@ pub record Spells (code : Flat) (bytes : List ℕ) : Type 0 where
   pub server : IsServerCode code
   pub numbers : All IsStep code.steps
   pub spelled : code_bytes code ≡ bytes
+
+-- want of memory may end a reading anywhere, a fault where no code has the bytes
+abbrev pub NoCode : CodeEnd → List ℕ → Type 0
+NoCode Bad bytes = (code : Flat) → Spells code bytes → ⊥
+NoCode Memory bytes = Unit {0}

@@ -1,13 +1,13 @@
 -- What holds of each step holds of the bodies that they spell.
-use Rattle.std.proofs.Common.{◌≡◌, ℕ, zero, suc, ◌+◌, ◌<◌, ◌∙◌, List, [], ◌∷◌, length, drop, refl, ap, sym, subst, arith, Some, slice_get, Bool, true, inl, inr, All}
-use Rattle.std.specs.List.{list_all}
+use Rattle.std.proofs.Common.{◌≡◌, ℕ, zero, suc, ◌+◌, ◌<◌, ◌≤◌, List, [], ◌∷◌, ◌++◌, length, drop, refl, ap, sym, subst, arith, ◌∙◌, Some, None, slice_get, Bool, true, ◌⊎◌, inl, inr, All}
+use Rattle.std.specs.List.{list_all, flat_map}
 use Rattle.std.proofs.lemmas.Bool.{cases_eq}
 use Rattle.m5_machine.specs.declared.step.Step.{Step}
 use Rattle.m5_machine.specs.declared.step.Step.TheVariants as steps
-use Rattle.m5_machine.specs.Body.{Body, bodies, onto}
+use Rattle.m5_machine.specs.Body.{Body, Then, If, Go, Ask, Send, Done, bodies, onto}
 use Rattle.m5_machine.specs.Blocks.{Flat, IsFlat, HasBody, body_at, first_or_done, start_in}
-use Rattle.m5_machine.specs.Labelled.{blocks_from, blocks_of}
-use Rattle.m5_machine.specs.code.Flattened.{EachStep, EachBlock}
+use Rattle.m5_machine.specs.Labelled.{Labelled, blocks_from, blocks_of}
+use Rattle.m5_machine.specs.code.Flattened.{EachStep, EachBlock, flattened, laid}
 use Rattle.m5_machine.proofs.Places.{some_start}
 use Rattle.m5_machine.proofs.Linking.{and_first, and_second}
 use Rattle.m5_machine.proofs.Laying.{blocks_none, blocks_some}
@@ -67,3 +67,21 @@ unfolding HasBody body_at
 each_block P code flat f e =
     each_from P code 0 code.starts (λ i s g k.
     first_each (EachStep P) (bodies (drop s code.steps)) (flat.starts i s (ap start_in g ∙ some_start s k)).body (bodies_each P (drop s code.steps) f (drop_each P s code.steps e)))
+
+each_append : (P : Step → Type 0) (xs ys : List Step) → Each P xs → Each P ys → Each P (xs ++ ys)
+each_append P [] ys a b = b
+each_append P (x ∷ xs) ys a b = (a.0, each_append P xs ys a.1 b)
+
+each_flat : (P : Step → Type 0) (b : Body) → EachStep P b → Each P (flattened b)
+unfolding EachStep flattened
+each_flat P (Then i b) e = (e.0, each_flat P b e.1)
+each_flat P (If s a b) e = (e.0, each_append P (flattened a) (flattened b) (each_flat P a e.1) (each_flat P b e.2))
+each_flat P (Go c v) e = (e, tt)
+each_flat P (Ask p a n) e = (e, tt)
+each_flat P (Send w c v) e = (e, tt)
+each_flat P Done e = (e, tt)
+
+-- what holds of each step of blocks holds of the steps that they are laid out as
+pub each_laid : (P : Step → Type 0) (bs : List Labelled) → EachBlock P bs → Each P (flat_map laid bs)
+each_laid P [] e = tt
+each_laid P (b ∷ bs) e = each_append P (flattened b.body) (flat_map laid bs) (each_flat P b.body e.0) (each_laid P bs e.1)

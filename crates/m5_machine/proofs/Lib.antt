@@ -10,3 +10,4 @@ pub mod Flattening
 pub mod Laying
 pub mod EachStep
 pub mod Walking
+pub mod Kept
