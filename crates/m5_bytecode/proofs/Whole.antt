@@ -122,14 +122,14 @@ pub none_left : (from n : ℕ) (bytes : List ℕ) → n ≡ 0 → BlocksHere fro
 none_left from n bytes e h = h.is ∙ nothing_here h.blocks (h.count_is ∙ e)
 
 -- the blocks are the only ones with these bytes
-lists_same : (from to : ℕ) (as bs : List Labelled) → Rising from as → Rising to bs → EachBlock IsServerStep as → EachBlock IsServerStep bs → length as ≡ length bs → flat_map block_bytes as ≡ flat_map block_bytes bs → length (flat_map block_bytes as) < 2 ^ 32 → as ≡ bs
+lists_same : (from to : ℕ) (cs bs : List Labelled) → Rising from cs → Rising to bs → EachBlock IsServerStep cs → EachBlock IsServerStep bs → length cs ≡ length bs → flat_map block_bytes cs ≡ flat_map block_bytes bs → length (flat_map block_bytes cs) < 2 ^ 32 → cs ≡ bs
 lists_same from to [] [] r q g h n e s = refl
 lists_same from to [] (b ∷ bs) r q g h n e s = absurd (omega arith)
-lists_same from to (a ∷ as) [] r q g h n e s = absurd (omega arith)
-lists_same from to (a ∷ as) (b ∷ bs) r q g h n e s =
-    let u = block_unique a b (flat_map block_bytes as) (flat_map block_bytes bs) r.1 q.1 g.0 h.0 e s in
-    let next = lists_same (a.label + 1) (b.label + 1) as bs r.2 q.2 g.1 h.1 (omega arith) u.1 (omega (arith, length-append (block_bytes a) (flat_map block_bytes as))) in
-    ap (λ (x : Labelled). x ∷ as) u.0 ∙ ap (λ (xs : List Labelled). b ∷ xs) next
+lists_same from to (a ∷ cs) [] r q g h n e s = absurd (omega arith)
+lists_same from to (a ∷ cs) (b ∷ bs) r q g h n e s =
+    let u = block_unique a b (flat_map block_bytes cs) (flat_map block_bytes bs) r.1 q.1 g.0 h.0 e s in
+    let next = lists_same (a.label + 1) (b.label + 1) cs bs r.2 q.2 g.1 h.1 (omega arith) u.1 (omega (arith, length-append (block_bytes a) (flat_map block_bytes cs))) in
+    ap (λ (x : Labelled). x ∷ cs) u.0 ∙ ap (λ (xs : List Labelled). b ∷ xs) next
 
 pub same_as_other : (code : Flat) (count : ℕ) (bytes rest starts : List ℕ) (ss : List Step) → Spells code bytes → two_in bytes ≡ number_read count rest → length rest < 2 ^ 32 → (r : BlocksRead rest [] starts ss count) → blocks_of code ≡ r.blocks
 same_as_other code count bytes rest starts ss s e short r =
@@ -139,10 +139,10 @@ same_as_other code count bytes rest starts ss s e short r =
     (other_good code bytes s) r.good (o.0 ∙ sym r.count_is) (sym o.1 ∙ is) (subst (λ (xs : List ℕ). length xs < 2 ^ 32) o.1 short)
 
 pub must_link : (count : ℕ) (bytes rest starts : List ℕ) (ss : List Step) → two_in bytes ≡ number_read count rest → length rest + 2 < 2 ^ 32 → BlocksRead rest [] starts ss count → (CanLink starts ss → ⊥) → (code : Flat) → Spells code bytes → ⊥
-must_link count bytes rest starts ss e short r no code s =
+must_link count bytes rest starts ss e short r n code s =
     let same = same_as_other code count bytes rest starts ss s e (omega arith) r in
     let few = few_steps rest [] starts ss count r in
-    no (can_link starts ss r.blocks r.laid (subst AllFit same (flat_fit code s.server.flat)) (omega (arith, few.0)))
+    n (can_link starts ss r.blocks r.laid (subst AllFit same (flat_fit code s.server.flat)) (omega (arith, few.0)))
 
 server_erased : (s : Step) → server_step (erased s) ≡ server_step s
 server_erased (steps.Fill i) = refl
@@ -193,3 +193,10 @@ code_read code count bytes rest starts ss e small short r f l =
       numbers = linked_numbers starts ss code f l (numbers_of ss all);
       spelled = bytes_are;
     }
+
+pub nothing : (xs : List ℕ) → length xs ≤ 0 → xs ≡ []
+nothing [] h = refl
+nothing (x ∷ xs) h = absurd (omega arith)
+
+pub linked_read : (code : Flat) (count : ℕ) (old new starts : List ℕ) (ss : List Step) → IsLinked starts ss code → (r : BlocksRead old new starts ss count) → blocks_of code ≡ r.blocks
+linked_read code count old new starts ss l r = linked_blocks starts ss code l ∙ r.laid.blocks

@@ -1,6 +1,6 @@
 //! A code read from bytes.
 
-ghost use Rattle.std.specs.Prelude.{◌≡◌, ◌≤◌, ◌<◌, ◌∷◌, [], ◌++◌, ℕ, List, IfOk, IfErr, OnOk};
+ghost use Rattle.std.specs.Prelude.{◌≡◌, ◌≤◌, ◌<◌, ◌∷◌, [], ◌++◌, ℕ, List, length, IfOk, IfErr, OnOk};
 ghost use Rattle.std.specs.Vec.{vec_len};
 ghost use Rattle.m5_machine.specs.declared.step.Step.{Step};
 ghost use Rattle.m5_machine.specs.Blocks.{Flat};
@@ -91,7 +91,7 @@ fn read_block(
 ) -> Result<(), CodeEnd>
     requires { vec_len steps.old < 4294967295 }
     ensures ok { OnOk result (BlockRead input.old.rest.now starts.old.items steps.old.items input.new.rest.now starts.new.items steps.new.items) }
-    ensures err { IfErr result (λ e. NoBlock e (vec_len starts.old) input.old.rest.now) }
+    ensures err { IfErr result (λ e. NoBlock e (length starts.old.items) input.old.rest.now) }
 {
     let label = input.two()? as usize;
     if label < starts.len() {
@@ -133,7 +133,8 @@ pub fn decode(alloc: Global, bytes: &[u8]) -> Result<Code, CodeEnd>
     for number in 0..count {
         read_block(&mut input, alloc, &mut starts, &mut steps)?;
     }
-    if !input.rest.is_empty() {
+    let left = input.rest.len();
+    if left > 0 {
         return Err(CodeEnd::Bad);
     }
     match link(alloc, starts, steps)? {

@@ -13,6 +13,7 @@ mod steps;
 mod tests;
 mod words;
 
+pub use decoding::decode;
 pub use encoding::encode;
 pub use input::CodeEnd;
 pub use lines::listing;
