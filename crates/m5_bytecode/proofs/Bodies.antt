@@ -1,11 +1,11 @@
 -- A body that is spelled at the front of bytes is the only one there.
-use Rattle.std.proofs.Common.{◌≡◌, ℕ, zero, suc, ◌+◌, ◌-◌, ◌<◌, ◌≤◌, ◌^◌, ◌∙◌, max, List, [], ◌∷◌, ◌++◌, length, refl, ap, sym, subst, arith, append_assoc, append-nil, length-append, Option, Some, None, Bool, true, false}
+use Rattle.std.proofs.Common.{◌≡◌, ℕ, ◌+◌, ◌<◌, ◌≤◌, ◌^◌, ◌∙◌, List, [], ◌++◌, length, refl, ap, sym, subst, arith, append_assoc, length-append, Option, Some, None, Bool, true, false}
 use Rattle.m5_machine.specs.declared.step.Instruction.{Instruction}
 use Rattle.m5_machine.specs.declared.step.Step.{Step}
 use Rattle.m5_machine.specs.declared.step.Step.TheVariants as steps
 use Rattle.m5_machine.specs.Body.{Body, Then, If, Go, Ask, Send, Done, depth}
-use Rattle.m5_machine.specs.code.Flattened.{flattened, EachStep}
-use Rattle.m5_bytecode.specs.Spelling.{two, four, instruction_bytes, body_bytes}
+use Rattle.m5_machine.specs.code.Flattened.{EachStep}
+use Rattle.m5_bytecode.specs.Spelling.{instruction_bytes, body_bytes}
 use Rattle.m5_bytecode.specs.declared.input.CodeEnd.{CodeEnd}
 use Rattle.m5_bytecode.specs.declared.input.CodeEnd.TheVariants.{Bad, Memory}
 use Rattle.m5_bytecode.specs.code.Reading.{step_in, Refuses}

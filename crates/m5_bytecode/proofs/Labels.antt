@@ -1,10 +1,10 @@
 -- A block that is spelled at the front of bytes is the only one there.
-use Rattle.std.proofs.Common.{◌≡◌, ℕ, zero, suc, ◌+◌, ◌*◌, ◌-◌, ◌<◌, ◌≤◌, ◌^◌, ◌∙◌, List, [], ◌∷◌, ◌++◌, length, refl, ap, sym, subst, arith, append_assoc, append-nil, length-append, Option, Some, None, Bool, true, false}
+use Rattle.std.proofs.Common.{◌≡◌, ℕ, suc, ◌+◌, ◌<◌, ◌≤◌, ◌^◌, ◌∙◌, List, [], ◌∷◌, ◌++◌, length, ap, sym, subst, arith, length-append, Option, Some, None, Bool, true, false}
 use Rattle.std.specs.List.{flat_map}
 use Rattle.m5_machine.specs.declared.step.Step.{Step}
 use Rattle.m5_machine.specs.Body.{Body, depth}
 use Rattle.m5_machine.specs.Labelled.{Labelled}
-use Rattle.m5_machine.specs.code.Flattened.{flattened, laid, IsLaid, AllFit, Rising, EachStep, EachBlock}
+use Rattle.m5_machine.specs.code.Flattened.{IsLaid, AllFit, Rising, EachStep, EachBlock}
 use Rattle.m5_machine.proofs.Laying.{laid_block}
 use Rattle.m5_bytecode.specs.declared.input.CodeEnd.{CodeEnd}
 use Rattle.m5_bytecode.specs.declared.input.CodeEnd.TheVariants.{Bad, Memory}
@@ -154,10 +154,10 @@ block_read label long n old mid rest new starts skipped after ss more e f l h s 
       label = h;
       next = omega (arith, ap length after_is, length-append skipped (length ss ∷ []));
       laid = λ bs i small.
-        subst (λ (x : ℕ). IsLaid after more (bs ++ record { label = x; body = m.body } ∷ [])) s
-        (subst (λ (xs : List ℕ). IsLaid xs more (bs ++ record { label = length skipped; body = m.body } ∷ [])) (sym after_is)
-        (subst (λ (xs : List Step). IsLaid (skipped ++ length ss ∷ []) xs (bs ++ record { label = length skipped; body = m.body } ∷ [])) (sym m.steps)
-        (laid_block skipped ss bs m.body (g ss bs i) small)));
+          subst (λ (x : ℕ). IsLaid after more (bs ++ record { label = x; body = m.body } ∷ [])) s
+          (subst (λ (xs : List ℕ). IsLaid xs more (bs ++ record { label = length skipped; body = m.body } ∷ [])) (sym after_is)
+          (subst (λ (xs : List Step). IsLaid (skipped ++ length ss ∷ []) xs (bs ++ record { label = length skipped; body = m.body } ∷ [])) (sym m.steps)
+          (laid_block skipped ss bs m.body (g ss bs i) small)));
     }
 
 -- the blocks behind one that was read

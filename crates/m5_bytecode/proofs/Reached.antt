@@ -1,12 +1,12 @@
 -- What is read of a body, step by step.
-use Rattle.std.proofs.Common.{◌≡◌, ℕ, zero, suc, ◌+◌, ◌-◌, ◌<◌, ◌≤◌, ◌^◌, ◌∙◌, max, List, [], ◌∷◌, ◌++◌, length, refl, ap, sym, subst, arith, append_assoc, append-nil, length-append}
+use Rattle.std.proofs.Common.{◌≡◌, ℕ, ◌+◌, ◌≤◌, ◌∙◌, List, [], ◌∷◌, ◌++◌, length, refl, ap, sym, arith, append_assoc, length-append}
 use Rattle.m5_machine.specs.declared.step.Instruction.{Instruction}
 use Rattle.m5_machine.specs.declared.step.Step.{Step}
 use Rattle.m5_machine.specs.declared.step.Step.TheVariants as steps
 use Rattle.m5_machine.specs.Body.{Body, Then, If, Go, Ask, Send, Done, depth}
 use Rattle.m5_machine.specs.code.Flattened.{flattened, EachStep}
 use Rattle.m5_bytecode.specs.Spelling.{two, four, instruction_bytes, body_bytes}
-use Rattle.m5_bytecode.specs.code.Bodies.{step_bytes, IsServerStep, StepRead, BodyRead}
+use Rattle.m5_bytecode.specs.code.Bodies.{StepRead, BodyRead}
 
 -- an instruction before the rest of the body
 pub read_fill : (level : ℕ) (old rest new : List ℕ) (before mid after : List Step) (i : Instruction) → StepRead old (steps.Fill i) rest → mid ≡ before ++ steps.Fill i ∷ [] → BodyRead level rest mid new after → BodyRead level old before new after
@@ -51,7 +51,7 @@ read_if level old rest mid new b0 b1 b2 after s n k e f l g =
       body = If s f.body g.body;
       is = if_is s n f.body g.body old rest mid new k.is long f.is g.is;
       steps = g.steps ∙ ap (λ (ss : List Step). ss ++ flattened g.body) (f.steps ∙ ap (λ (ss : List Step). ss ++ flattened f.body) e ∙ append_assoc b0 (steps.If s 0 ∷ []) (flattened f.body))
-        ∙ append_assoc b0 (steps.If s 0 ∷ flattened f.body) (flattened g.body);
+          ∙ append_assoc b0 (steps.If s 0 ∷ flattened f.body) (flattened g.body);
       good = (record { server = refl; numbers = (k.good.numbers.0, omega arith) }, f.good, g.good);
       deep = omega (arith, f.deep, g.deep);
     }

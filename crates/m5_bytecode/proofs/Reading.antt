@@ -1,5 +1,5 @@
 -- A step that is spelled at the front of bytes is read there.
-use Rattle.std.proofs.Common.{◌≡◌, ℕ, zero, suc, ◌+◌, ◌*◌, ◌<◌, ◌≤◌, ◌^◌, ◌∙◌, List, [], ◌∷◌, ◌++◌, length, take, drop, refl, ap, sym, subst, arith, append_assoc, length-append, Option, Some, None, Bool, true, false, nat_lt, if◌then◌else◌, All, FitsSigned, ℤ, nat_le, ◌==◌, ◌&&◌, ◌||◌}
+use Rattle.std.proofs.Common.{◌≡◌, ℕ, ◌*◌, ◌<◌, ◌^◌, ◌∙◌, List, [], ◌∷◌, ◌++◌, length, take, drop, refl, ap, sym, arith, length-append, Option, Some, None, Bool, true, false, nat_lt, if◌then◌else◌, All, FitsSigned, ℤ, nat_le, ◌==◌, ◌&&◌, ◌||◌}
 use Rattle.std.specs.List.{flat_map, list_all}
 use Rattle.std.specs.Int.{w16, w32, w64, to_be_bytes, from_be_bytes, cast_signed, cast_unsigned}
 use Rattle.std.proofs.lemmas.Bool.{le-ltb, ne_eqb}
@@ -12,11 +12,10 @@ use Rattle.m5_machine.specs.declared.step.Instruction.{Instruction}
 use Rattle.m5_machine.specs.declared.step.Instruction.TheVariants as i
 use Rattle.m5_machine.specs.declared.step.Step.{Step}
 use Rattle.m5_machine.specs.declared.step.Step.TheVariants as steps
-use Rattle.m5_machine.specs.Numbers.{IsSlot, IsStep}
+use Rattle.m5_machine.specs.Numbers.{IsSlot}
 use Rattle.m5_machine.proofs.EachStep.{Each, each_all}
 use Rattle.m5_bytecode.specs.Spelling.{two, four, instruction_bytes}
-use Rattle.m5_bytecode.specs.Server.{server_step}
-use Rattle.m5_bytecode.specs.code.Reading.{and_read, with_rest, take_in, byte_in, two_in, four_in, number_in, text_in, text_of, twos, slots_in, array_in, one_step, one_in, two_step, pair_in, branch_in, ask_in, send_in, step_in, step_by}
+use Rattle.m5_bytecode.specs.code.Reading.{and_read, with_rest, take_in, two_in, four_in, number_in, text_in, text_of, twos, slots_in, array_in, one_step, one_in, two_step, pair_in, branch_in, ask_in, send_in, step_in}
 use Rattle.m5_bytecode.specs.code.Bodies.{step_bytes, IsServerStep}
 use Rattle.m5_bytecode.proofs.Sizes.{twos_length}
 

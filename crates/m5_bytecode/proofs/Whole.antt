@@ -1,28 +1,26 @@
 -- What was read of a code, and what another code with the same bytes has.
-use Rattle.std.proofs.Common.{◌≡◌, ℕ, zero, suc, ◌+◌, ◌*◌, ◌-◌, ◌<◌, ◌≤◌, ◌^◌, ◌∙◌, List, [], ◌∷◌, ◌++◌, length, map, refl, ap, sym, subst, arith, append_assoc, append-nil, length-append, Option, Some, None, Bool, true, false, ◌&&◌, All, IsTrue}
-use Rattle.std.specs.List.{flat_map, list_all, sum_by}
+use Rattle.std.proofs.Common.{◌≡◌, ℕ, suc, ◌+◌, ◌*◌, ◌-◌, ◌<◌, ◌≤◌, ◌^◌, ◌∙◌, List, [], ◌∷◌, ◌++◌, length, refl, ap, sym, subst, arith, append_assoc, append-nil, length-append, Bool, true, false, ◌&&◌}
+use Rattle.std.specs.List.{flat_map, list_all}
 use Rattle.std.proofs.lemmas.List.Concat.{flat_map-append}
 use Rattle.std.proofs.lemmas.List.Sums.{sum_by-cons, sum_by-append}
 use Rattle.m5_machine.specs.declared.step.Step.{Step}
 use Rattle.m5_machine.specs.declared.step.Step.TheVariants as steps
-use Rattle.m5_machine.specs.declared.step.Instruction.{Instruction}
-use Rattle.m5_machine.specs.Body.{Body, Then, If, Go, Ask, Send, Done, depth}
+use Rattle.m5_machine.specs.Body.{Body, Then, If, Go, Ask, Send, Done}
 use Rattle.m5_machine.specs.Blocks.{Flat, IsFlat}
 use Rattle.m5_machine.specs.Labelled.{Labelled, blocks_of}
 use Rattle.m5_machine.specs.Linked.{erased, CanLink, IsLinked}
 use Rattle.m5_machine.specs.Numbers.{IsStep}
-use Rattle.m5_machine.specs.code.Flattened.{flattened, laid, IsLaid, AllFit, Rising, EachStep, EachBlock}
+use Rattle.m5_machine.specs.code.Flattened.{flattened, laid, AllFit, Rising, EachStep, EachBlock}
 use Rattle.m5_machine.proofs.Laying.{nothing_laid, linked_blocks, flat_fit, flat_rising, can_link}
 use Rattle.m5_machine.proofs.EachStep.{Each, ForgetsPlace, each_test, each_all, each_block, each_laid}
 use Rattle.m5_machine.proofs.Kept.{linked_all, linked_sum, linked_numbers}
 use Rattle.m5_bytecode.specs.declared.input.CodeEnd.{CodeEnd}
 use Rattle.m5_bytecode.specs.declared.input.CodeEnd.TheVariants.{Bad, Memory}
-use Rattle.m5_bytecode.specs.Spelling.{two, four, instruction_bytes, body_bytes, block_bytes, code_bytes}
-use Rattle.m5_bytecode.specs.Server.{server_step, step_length, steps_length, IsServerCode, Spells, NoCode}
+use Rattle.m5_bytecode.specs.Spelling.{two, instruction_bytes, body_bytes, block_bytes, code_bytes}
+use Rattle.m5_bytecode.specs.Server.{server_step, step_length, steps_length, Spells, NoCode}
 use Rattle.m5_bytecode.specs.code.Reading.{two_in, Refuses}
 use Rattle.m5_bytecode.specs.code.Bodies.{IsServerStep}
 use Rattle.m5_bytecode.specs.code.Blocks.{BlocksHere, BlockRead, BlocksRead, NoBlock}
-use Rattle.m5_bytecode.proofs.Sizes.{code_length}
 use Rattle.m5_bytecode.proofs.Reading.{two_back, some_bytes}
 use Rattle.m5_bytecode.proofs.Labels.{number_read, number_of, left_of, is_there, block_unique}
 
@@ -75,9 +73,10 @@ laid_bytes (b ∷ bs) = omega (arith, sum_by-append step_length (flattened b.bod
 
 pub few_steps : (old new starts : List ℕ) (ss : List Step) (count : ℕ) → BlocksRead old new starts ss count → (length ss ≤ length old) × (steps_length ss ≤ length old)
 few_steps old new starts ss count r =
-    let all : Each IsServerStep ss = subst (Each IsServerStep) (sym r.laid.steps) (each_laid IsServerStep r.blocks r.good) in
-    (omega (arith, fewer_steps ss all, ap steps_length r.laid.steps, laid_bytes r.blocks, ap length r.is, length-append (flat_map block_bytes r.blocks) new),
-    omega (arith, ap steps_length r.laid.steps, laid_bytes r.blocks, ap length r.is, length-append (flat_map block_bytes r.blocks) new))
+    let all : Each IsServerStep ss = subst (Each IsServerStep) (sym r.laid.steps) (each_laid IsServerStep r.blocks r.good) in (
+      omega (arith, fewer_steps ss all, ap steps_length r.laid.steps, laid_bytes r.blocks, ap length r.is, length-append (flat_map block_bytes r.blocks) new),
+      omega (arith, ap steps_length r.laid.steps, laid_bytes r.blocks, ap length r.is, length-append (flat_map block_bytes r.blocks) new),
+    )
 
 -- another code with the bytes
 forgets : ForgetsPlace IsServerStep

@@ -1,13 +1,11 @@
 -- A body written step by step.
-use Rattle.std.proofs.Common.{◌≡◌, ℕ, zero, suc, ◌+◌, ◌-◌, ◌<◌, ◌≤◌, ◌^◌, ◌∙◌, List, [], ◌∷◌, ◌++◌, length, take, drop, refl, ap, sym, subst, arith, append_assoc, append-nil, length-append, get_or, Bool, true, false, if◌then◌else◌, Some, slice_get}
-use Rattle.m5_machine.proofs.Places.{some_start}
-use Rattle.std.proofs.lemmas.Bool.{ne_eqb}
+use Rattle.std.proofs.Common.{◌≡◌, ℕ, ◌+◌, ◌-◌, ◌<◌, ◌≤◌, ◌^◌, ◌∙◌, List, [], ◌∷◌, ◌++◌, length, take, drop, ap, sym, subst, arith, append_assoc, length-append}
 use Rattle.std.proofs.lemmas.List.{take_at, drop_at, drop-drop}
 use Rattle.m5_machine.specs.declared.step.Instruction.{Instruction}
 use Rattle.m5_machine.specs.Body.{Body, Then, If, Go, Ask, Send, Done}
 use Rattle.std.specs.List.{flat_map}
 use Rattle.m5_machine.specs.Labelled.{blocks_of}
-use Rattle.m5_machine.specs.Blocks.{Flat, IsFlat, body_at, HasBody, start_in}
+use Rattle.m5_machine.specs.Blocks.{Flat}
 use Rattle.m5_machine.specs.code.Running.{size}
 use Rattle.m5_bytecode.specs.Spelling.{two, four, instruction_bytes, body_bytes, block_bytes, code_bytes}
 

@@ -1,5 +1,5 @@
 -- What holds of each step holds of the bodies that they spell.
-use Rattle.std.proofs.Common.{◌≡◌, ℕ, zero, suc, ◌+◌, ◌<◌, ◌≤◌, List, [], ◌∷◌, ◌++◌, length, drop, refl, ap, sym, subst, arith, ◌∙◌, Some, None, slice_get, Bool, true, ◌⊎◌, inl, inr, All}
+use Rattle.std.proofs.Common.{◌≡◌, ℕ, zero, suc, ◌+◌, ◌<◌, List, [], ◌∷◌, ◌++◌, length, drop, refl, ap, sym, subst, arith, ◌∙◌, Some, slice_get, Bool, true, inl, inr, All}
 use Rattle.std.specs.List.{list_all, flat_map}
 use Rattle.std.proofs.lemmas.Bool.{cases_eq}
 use Rattle.m5_machine.specs.declared.step.Step.{Step}

@@ -1,10 +1,10 @@
 -- What linking keeps of the steps.
-use Rattle.std.proofs.Common.{◌≡◌, ℕ, zero, suc, ◌+◌, ◌<◌, ◌≤◌, ◌^◌, ◌∙◌, List, [], ◌∷◌, length, drop, map, refl, ap, sym, subst, arith, Some, None, slice_get, slice_index_or, Bool, true, false, ◌&&◌, All}
+use Rattle.std.proofs.Common.{◌≡◌, ℕ, zero, suc, ◌+◌, ◌<◌, ◌^◌, ◌∙◌, List, [], ◌∷◌, length, map, refl, ap, sym, subst, arith, Some, None, slice_get, slice_index_or, Bool, ◌&&◌, All}
 use Rattle.std.specs.List.{list_all, sum_by}
 use Rattle.std.proofs.lemmas.List.Sums.{sum_by-cons}
 use Rattle.m5_machine.specs.declared.step.Step.{Step}
 use Rattle.m5_machine.specs.declared.step.Step.TheVariants as steps
-use Rattle.m5_machine.specs.Body.{Body, bodies}
+use Rattle.m5_machine.specs.Body.{Body}
 use Rattle.m5_machine.specs.Blocks.{Flat, IsFlat, all_but_first}
 use Rattle.m5_machine.specs.Linked.{erased, IsLinked}
 use Rattle.m5_machine.specs.Numbers.{IsStep}

@@ -2,10 +2,8 @@
 use Rattle.std.specs.Prelude.{◌≡◌, ℕ, suc, ◌+◌, ◌<◌, ◌≤◌, ◌^◌, List, [], ◌∷◌, ◌++◌, length}
 use Rattle.std.specs.List.{flat_map}
 use Rattle.m5_machine.specs.declared.step.Step.{Step}
-use Rattle.m5_machine.specs.Body.{depth}
-use Rattle.m5_machine.specs.Blocks.{Flat}
 use Rattle.m5_machine.specs.Labelled.{Labelled}
-use Rattle.m5_machine.specs.code.Flattened.{flattened, IsLaid, AllFit, Rising, EachStep, EachBlock}
+use Rattle.m5_machine.specs.code.Flattened.{IsLaid, AllFit, Rising, EachStep, EachBlock}
 use Rattle.m5_bytecode.specs.declared.input.CodeEnd.{CodeEnd}
 use Rattle.m5_bytecode.specs.declared.input.CodeEnd.TheVariants.{Bad, Memory}
 use Rattle.m5_bytecode.specs.Spelling.{block_bytes}

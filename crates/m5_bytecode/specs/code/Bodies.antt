@@ -2,7 +2,7 @@
 use Rattle.std.specs.Prelude.{◌≡◌, ℕ, ◌+◌, ◌<◌, ◌≤◌, ◌^◌, List, [], ◌∷◌, ◌++◌, length, Bool, true, not, ◌==◌}
 use Rattle.m5_machine.specs.declared.step.Step.{Step}
 use Rattle.m5_machine.specs.declared.step.Step.TheVariants as steps
-use Rattle.m5_machine.specs.Body.{Body, Then, If, Go, Ask, Send, Done, depth}
+use Rattle.m5_machine.specs.Body.{Body, depth}
 use Rattle.m5_machine.specs.Numbers.{IsStep}
 use Rattle.m5_machine.specs.code.Flattened.{flattened, EachStep}
 use Rattle.m5_bytecode.specs.declared.input.CodeEnd.{CodeEnd}

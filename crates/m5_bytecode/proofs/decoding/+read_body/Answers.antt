@@ -1,10 +1,9 @@
-use Rattle.std.proofs.Common.{◌≡◌, ◌≤◌, ◌<◌, ◌+◌, ◌∷◌, [], ◌++◌, ℕ, List, subst, sym, arith, length, length-append, ap}
+use Rattle.std.proofs.Common.{◌≡◌, ◌+◌, subst, arith, length, length-append, ap}
 use Rattle.std.proofs.lemmas.Result.{MatchResult-weaker, on_ok_weaker, err_from_is_err_and}
 use Rattle.m5_machine.specs.declared.step.Step.{Step}
 use Rattle.m5_bytecode.specs.Spelling.{body_bytes}
-use Rattle.m5_bytecode.specs.code.Bodies.{BodyRead, BodyHere, NoBody, StepRead}
-use Rattle.m5_bytecode.proofs.Reading.{some_bytes}
-use Rattle.m5_bytecode.proofs.Bodies.{no_step, no_body, no_memory, here_fill, here_if, here_first, here_second, here_length, too_deep}
+use Rattle.m5_bytecode.specs.code.Bodies.{StepRead}
+use Rattle.m5_bytecode.proofs.Bodies.{no_step, no_body, here_fill, here_if, here_first, here_second, here_length, too_deep}
 use Rattle.m5_bytecode.proofs.Reached.{read_fill, read_if, read_go, read_ask, read_send, read_done}
 use Rattle.m5_bytecode.proofs.decoding.+read_body.Goals as goal
 

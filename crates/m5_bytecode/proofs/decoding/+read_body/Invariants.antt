@@ -1,4 +1,4 @@
-use Rattle.std.proofs.Common.{◌≡◌, ◌-◌, ℕ, List, length}
+use Rattle.std.proofs.Common.{◌-◌, ℕ, List, length}
 use Rattle.m5_machine.specs.declared.step.Step.{Step}
 use Rattle.m5_bytecode.specs.code.Bodies.{BodyHere, BodyRead}
 use Rattle.m5_bytecode.proofs.decoding.+read_body.Given as goal

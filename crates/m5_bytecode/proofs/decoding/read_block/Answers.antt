@@ -1,4 +1,4 @@
-use Rattle.std.proofs.Common.{◌≡◌, ◌+◌, ◌<◌, ◌^◌, ℕ, ap, arith, length, length-append}
+use Rattle.std.proofs.Common.{◌≡◌, ◌+◌, ap, arith, length, length-append}
 use Rattle.std.proofs.lemmas.Result.{err_from_is_err_and}
 use Rattle.m5_bytecode.specs.Spelling.{body_bytes}
 use Rattle.m5_bytecode.proofs.Labels.{no_label, low_label, no_length, no_block_body, opened, long_as_told, block_read}

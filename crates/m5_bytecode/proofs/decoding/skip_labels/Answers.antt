@@ -1,4 +1,4 @@
-use Rattle.std.proofs.Common.{◌≡◌, ◌≤◌, List, ℕ, sym, subst, arith}
+use Rattle.std.proofs.Common.{List, ℕ, sym, subst, arith}
 use Rattle.m5_machine.specs.code.Flattened.{IsLaid}
 use Rattle.m5_machine.proofs.Laying.{laid_none}
 use Rattle.m5_bytecode.proofs.decoding.skip_labels.Goals as goal

@@ -1,4 +1,4 @@
-use Rattle.std.proofs.Common.{◌-◌, ◌≤◌, List, ℕ}
+use Rattle.std.proofs.Common.{◌-◌, ◌≤◌, List}
 use Rattle.std.specs.Vec.{vec_len}
 use Rattle.m5_machine.specs.declared.step.Step.{Step}
 use Rattle.m5_machine.specs.Labelled.{Labelled}

@@ -1,5 +1,4 @@
-use Rattle.std.proofs.Common.{◌≡◌, ◌∙◌, List, ℕ, ap, subst, arith, refl, length, count_by, IfOk}
-use Rattle.m5_machine.specs.Labelled.{blocks_of}
+use Rattle.std.proofs.Common.{◌≡◌, ◌∙◌, List, ℕ, ap, subst, arith, count_by, IfOk}
 use Rattle.m5_bytecode.specs.code.Bodies.{has_block}
 use Rattle.m5_bytecode.specs.Spelling.{code_bytes}
 use Rattle.m5_bytecode.proofs.Sizes.{count_blocks}

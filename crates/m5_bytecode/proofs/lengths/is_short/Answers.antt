@@ -3,7 +3,7 @@ use Rattle.std.specs.List.{flat_map}
 use Rattle.std.proofs.lemmas.Bool.{le-ltb, lt-ltb}
 use Rattle.m5_machine.specs.Labelled.{blocks_from}
 use Rattle.m5_bytecode.specs.Spelling.{block_bytes, code_bytes}
-use Rattle.std.proofs.Common.{List, ℕ, length, arith, refl, ◌<◌, ◌≤◌, ◌^◌, ap, ◌∙◌, sym, nat_lt}
+use Rattle.std.proofs.Common.{List, ℕ, length, arith, refl, ◌<◌, ◌≤◌, ap, sym}
 use Rattle.m5_machine.proofs.Walking.{block_there}
 use Rattle.m5_bytecode.proofs.Sizes.{body_length, code_length, walk_length}
 use Rattle.m5_bytecode.proofs.lengths.is_short.Goals as goal

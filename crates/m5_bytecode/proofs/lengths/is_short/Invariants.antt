@@ -1,4 +1,4 @@
-use Rattle.std.proofs.Common.{◌≡◌, ◌++◌, ◌+◌, ◌<◌, ◌^◌, drop, length}
+use Rattle.std.proofs.Common.{◌≡◌, ◌+◌, ◌<◌, ◌^◌, drop, length}
 use Rattle.std.specs.List.{flat_map}
 use Rattle.m5_machine.specs.Labelled.{blocks_from, blocks_of}
 use Rattle.m5_bytecode.specs.Spelling.{block_bytes}

@@ -1,4 +1,4 @@
-use Rattle.std.proofs.Common.{refl, arith, List, ℕ, ◌≡◌, ap, sym, subst, ◌∙◌, ◌<◌, ◌^◌, length, All}
+use Rattle.std.proofs.Common.{refl, arith, List, ℕ, ◌≡◌, sym, subst, ◌<◌, ◌^◌, length, All}
 use Rattle.m5_machine.specs.Numbers.{IsSlot}
 use Rattle.m5_bytecode.proofs.Reading.{array_is}
 use Rattle.m5_bytecode.proofs.input.Input.array.Goals as goal
