@@ -2,3 +2,7 @@
 #![tactic(auto)]
 
 pub mod js;
+mod printing;
+mod words;
+
+pub use printing::print;

@@ -1,7 +1,7 @@
 -- A walk over the labels of a code: what is written of the blocks from a label on.
 use Rattle.std.proofs.Common.{◌≡◌, ℕ, zero, suc, ◌+◌, ◌<◌, ◌≤◌, ◌∙◌, List, [], ◌∷◌, ◌++◌, length, drop, refl, ap, sym, arith, append_assoc, append-nil, get_or, drop-cons, Some, slice_get}
 use Rattle.std.specs.List.{flat_map}
-use Rattle.m5_machine.specs.Blocks.{Flat, IsFlat, HasBody, body_at, start_in}
+use Rattle.m5_machine.specs.Blocks.{Flat, IsFlat, BeginsBlock, body_at, start_in}
 use Rattle.m5_machine.specs.Labelled.{Labelled, blocks_from}
 use Rattle.m5_machine.proofs.Places.{some_start}
 use Rattle.m5_machine.proofs.Laying.{blocks_none, blocks_some}
@@ -38,7 +38,7 @@ start_item (x ∷ xs) zero h = refl
 start_item (x ∷ xs) (suc i) h = start_item xs i (omega arith)
 
 -- where a label's block begins
-pub block_there : (code : Flat) (starts : List ℕ) (i s : ℕ) → IsFlat code → starts ≡ code.starts → i < length starts → s ≡ get_or starts i 0 → (s ≡ 4294967295 → ⊥) → HasBody code s
-block_there code starts i s f e h g n =
+pub block_begins : (code : Flat) (starts : List ℕ) (i s : ℕ) → IsFlat code → starts ≡ code.starts → i < length starts → s ≡ get_or starts i 0 → (s ≡ 4294967295 → ⊥) → BeginsBlock code s
+block_begins code starts i s f e h g n =
     let at : slice_get code.starts i ≡ Some s = ap (λ (x : List ℕ). slice_get x i) (sym e) ∙ start_item starts i h ∙ ap Some (sym g) in
-    (f.starts i s (ap start_in at ∙ some_start s n)).body
+    f.starts i s (ap start_in at ∙ some_start s n)

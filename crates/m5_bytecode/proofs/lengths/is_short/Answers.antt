@@ -4,16 +4,16 @@ use Rattle.std.proofs.lemmas.Bool.{le-ltb, lt-ltb}
 use Rattle.m5_machine.specs.Labelled.{blocks_from}
 use Rattle.m5_bytecode.specs.Spelling.{block_bytes, code_bytes}
 use Rattle.std.proofs.Common.{List, ℕ, length, arith, refl, ◌<◌, ◌≤◌, ap, sym}
-use Rattle.m5_machine.proofs.Walking.{block_there}
+use Rattle.m5_machine.proofs.Walking.{block_begins}
 use Rattle.m5_bytecode.proofs.Sizes.{body_length, code_length, walk_length}
 use Rattle.m5_bytecode.proofs.lengths.is_short.Goals as goal
 
 pub body_length-length-requires-clause-body : goal.body_length-length-requires-clause-body
-body_length-length-requires-clause-body c = block_there _ c.starts-starts.result.now c.loop-label.label _ c.requires.flat c.starts-starts.ensures (omega arith) refl c.if-start.true
+body_length-length-requires-clause-body c = (block_begins _ c.starts-starts.result.now c.loop-label.label _ c.requires.flat c.starts-starts.ensures (omega arith) refl c.if-start.true).body
 
 pub overflow_add-length : goal.overflow_add-length
 overflow_add-length c =
-    let there = block_there _ c.starts-starts.result.now c.loop-label.label _ c.requires.flat c.starts-starts.ensures (omega arith) refl c.if-start.true in
+    let there = (block_begins _ c.starts-starts.result.now c.loop-label.label _ c.requires.flat c.starts-starts.ensures (omega arith) refl c.if-start.true).body in
     omega (arith, body_length c.args.code.now _ there, c.body_length-length.ensures, c.requires.small)
 
 pub returns-then-length-total : goal.returns-then-length-total
