@@ -3,6 +3,8 @@
 
 pub mod js;
 mod printing;
+#[cfg(test)]
+mod tests;
 mod words;
 
 pub use printing::print;

@@ -51,12 +51,7 @@ fn put_slot(out: &mut Vec<u8>, slot: u16) -> Result<(), AllocError>
 }
 
 /// Adds two slots with something between them.
-fn put_pair(
-    out: &mut Vec<u8>,
-    first: u16,
-    between: &[u8],
-    second: u16,
-) -> Result<(), AllocError>
+fn put_pair(out: &mut Vec<u8>, first: u16, between: &[u8], second: u16) -> Result<(), AllocError>
     ensures { OnOk result (out.new.items ≡ out.old.items ++ pair_text first between.now second) }
 {
     put_slot(out, first)?;
@@ -65,12 +60,7 @@ fn put_pair(
 }
 
 /// Adds arithmetic, which wraps at 64 bits.
-fn put_wrapped(
-    out: &mut Vec<u8>,
-    first: u16,
-    between: &[u8],
-    second: u16,
-) -> Result<(), AllocError>
+fn put_wrapped(out: &mut Vec<u8>, first: u16, between: &[u8], second: u16) -> Result<(), AllocError>
     ensures { OnOk result (out.new.items ≡ out.old.items ++ wrapped_text first between.now second) }
 {
     put(out, b"BigInt.asIntN(64, ")?;
@@ -162,11 +152,7 @@ fn put_text(out: &mut Vec<u8>, alloc: Global, bytes: &[u8]) -> Result<(), AllocE
 }
 
 /// Adds the value of an instruction.
-fn put_value(
-    out: &mut Vec<u8>,
-    alloc: Global,
-    instruction: &Instruction,
-) -> Result<(), AllocError>
+fn put_value(out: &mut Vec<u8>, alloc: Global, instruction: &Instruction) -> Result<(), AllocError>
     ensures { OnOk result (out.new.items ≡ out.old.items ++ value_text instruction.now) }
 {
     match instruction {
