@@ -1,5 +1,5 @@
 -- A body printed piece by piece.
-use Rattle.std.proofs.Common.{◌≡◌, ℕ, suc, ◌+◌, ◌<◌, ◌≤◌, ◌∙◌, max, List, ◌++◌, length, ap, sym, subst, arith, append_assoc, codes}
+use Rattle.std.proofs.Common.{◌≡◌, ℕ, suc, ◌+◌, ◌<◌, ◌≤◌, ◌∙◌, List, ◌++◌, ap, sym, subst, arith, append_assoc, codes}
 use Rattle.m5_machine.specs.declared.step.Instruction.{Instruction}
 use Rattle.m5_machine.specs.Body.{Body, Then, If, Go, Ask, Send, Done, fills}
 use Rattle.m5_machine.specs.code.Running.{size}

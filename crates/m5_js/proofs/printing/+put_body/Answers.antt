@@ -1,6 +1,5 @@
-use Rattle.std.proofs.Common.{◌≡◌, ◌+◌, ◌<◌, ◌≤◌, ◌∙◌, subst, arith, suc}
+use Rattle.std.proofs.Common.{◌+◌, ◌<◌, ◌∙◌, subst, arith}
 use Rattle.std.proofs.lemmas.Result.{on_ok_weaker}
-use Rattle.m5_machine.specs.Body.{fills}
 use Rattle.m5_machine.specs.Blocks.{Shows, body_at}
 use Rattle.m5_machine.specs.code.Running.{size}
 use Rattle.m5_js.proofs.Pieces.{fill_text, if_text, go_here, ask_here, send_here, done_here, fill_smaller, if_smaller}
