@@ -1,14 +1,19 @@
 -- How long spellings are.
-use Rattle.std.proofs.Common.{ap, ◌∙◌, ◌≡◌, ℕ, zero, suc, ◌+◌, ◌*◌, ◌<◌, ◌≤◌, List, [], ◌∷◌, ◌++◌, length, drop, refl, arith, length-append}
+use Rattle.std.proofs.Common.{ap, sym, ◌∙◌, ◌≡◌, ℕ, get_or, count_by, inl, inr, Bool, not, if◌then◌else◌, zero, suc, ◌+◌, ◌*◌, ◌<◌, ◌≤◌, List, [], ◌∷◌, ◌++◌, length, drop, refl, arith, length-append}
 use Rattle.std.specs.List.{flat_map}
+use Rattle.std.proofs.lemmas.Bool.{ne_eqb, cases_eq}
 use Rattle.std.proofs.lemmas.List.Sums.{sum_by-cons}
 use Rattle.m5_machine.specs.declared.step.Instruction.{Instruction}
 use Rattle.m5_machine.specs.declared.step.Step.{Step}
 use Rattle.m5_machine.specs.declared.step.Step.TheVariants as steps
 use Rattle.m5_machine.specs.Body.{Body, Then, If, bodies, one, two as onto_two, onto, Go, Ask, Send, Done}
 use Rattle.m5_machine.specs.Blocks.{Flat, body_at, HasBody, first_or_done}
-use Rattle.m5_bytecode.specs.Spelling.{two, instruction_bytes, body_bytes}
-use Rattle.m5_bytecode.specs.Code.{step_length, steps_length}
+use Rattle.m5_machine.specs.Labelled.{Labelled, blocks_from, blocks_of}
+use Rattle.m5_machine.proofs.Laying.{blocks_none, blocks_some}
+use Rattle.m5_machine.proofs.Walking.{block_walked}
+use Rattle.m5_bytecode.specs.Spelling.{two, instruction_bytes, body_bytes, block_bytes, code_bytes}
+use Rattle.m5_bytecode.specs.code.Bodies.{has_block}
+use Rattle.m5_bytecode.specs.Server.{step_length, steps_length}
 
 pub twos_length : (xs : List ℕ) → length (flat_map two xs) ≡ 2 * length xs
 twos_length [] = refl
@@ -83,3 +88,30 @@ send_len w c v here e = ap (λ (x : Body). length (body_bytes x)) e
 pub done_len : (here : Body) → here ≡ Done → length (body_bytes here) ≡ 1
 unfolding body_bytes
 done_len here e = ap (λ (x : Body). length (body_bytes x)) e
+
+count_some : (s : ℕ) (starts : List ℕ) → (s ≡ 4294967295 → ⊥) → count_by has_block (s ∷ starts) ≡ suc (count_by has_block starts)
+count_some s starts h = sum_by-cons (λ (x : ℕ). if has_block x then 1 else 0) s starts ∙ ap (λ (t : Bool). (if not t then 1 else 0) + count_by has_block starts) (ne_eqb s 4294967295 h) ∙ omega arith
+
+count_none : (s : ℕ) (starts : List ℕ) → s ≡ 4294967295 → count_by has_block (s ∷ starts) ≡ count_by has_block starts
+count_none s starts e = sum_by-cons (λ (x : ℕ). if has_block x then 1 else 0) s starts ∙ ap (λ (k : ℕ). (if has_block k then 1 else 0) + count_by has_block starts) e ∙ omega arith
+
+-- each place that stands for a block is one block
+pub count_blocks : (code : Flat) (n : ℕ) (starts : List ℕ) → count_by has_block starts ≡ length (blocks_from code n starts)
+count_blocks code n [] = refl
+count_blocks code n (s ∷ starts) =
+    elim (cases_eq s 4294967295) [
+      | inl e ↦ count_none s starts e ∙ count_blocks code (n + 1) starts ∙ sym (ap length (blocks_none code n s starts e))
+      | inr h ↦ count_some s starts h ∙ ap suc (count_blocks code (n + 1) starts) ∙ sym (ap length (blocks_some code n s starts h))
+    ]
+
+pub code_length : (code : Flat) → length (code_bytes code) ≡ 2 + length (flat_map block_bytes (blocks_of code))
+unfolding code_bytes
+code_length code = length-append (two (length (blocks_of code))) (flat_map block_bytes (blocks_of code))
+
+-- what is left to be spelled, before and after a label with a block
+pub walk_length : (code : Flat) (starts : List ℕ) (i s : ℕ) → i < length starts → s ≡ get_or starts i 0 → (s ≡ 4294967295 → ⊥) → length (flat_map block_bytes (blocks_from code i (drop i starts))) ≡ 6 + length (body_bytes (body_at code s)) + length (flat_map block_bytes (blocks_from code (i + 1) (drop (i + 1) starts)))
+walk_length code starts i s h e n =
+    let b : Labelled = record { label = i; body = body_at code s } in
+    let rest = flat_map block_bytes (blocks_from code (i + 1) (drop (i + 1) starts)) in
+    let walked : block_bytes b ++ rest ≡ flat_map block_bytes (blocks_from code i (drop i starts)) = block_walked block_bytes code [] (block_bytes b) starts i s h e n refl in
+    omega (arith, ap length walked, length-append (block_bytes b) rest)

@@ -1,13 +1,13 @@
 -- A body written step by step.
-use Rattle.std.proofs.Common.{◌≡◌, ℕ, zero, suc, ◌+◌, ◌-◌, ◌<◌, ◌≤◌, ◌^◌, ◌∙◌, List, [], ◌∷◌, ◌++◌, length, take, drop, refl, ap, sym, subst, arith, append_assoc, append-nil, length-append, get_or, Bool, true, false, if◌then◌else◌, Some, slice_get}
-use Rattle.m5_machine.proofs.Places.{some_start}
-use Rattle.std.proofs.lemmas.Bool.{ne_eqb}
+use Rattle.std.proofs.Common.{◌≡◌, ℕ, ◌+◌, ◌-◌, ◌<◌, ◌≤◌, ◌^◌, ◌∙◌, List, [], ◌∷◌, ◌++◌, length, take, drop, ap, sym, subst, arith, append_assoc, length-append}
 use Rattle.std.proofs.lemmas.List.{take_at, drop_at, drop-drop}
 use Rattle.m5_machine.specs.declared.step.Instruction.{Instruction}
 use Rattle.m5_machine.specs.Body.{Body, Then, If, Go, Ask, Send, Done}
-use Rattle.m5_machine.specs.Blocks.{Flat, IsFlat, body_at, HasBody, start_in}
+use Rattle.std.specs.List.{flat_map}
+use Rattle.m5_machine.specs.Labelled.{blocks_of}
+use Rattle.m5_machine.specs.Blocks.{Flat}
 use Rattle.m5_machine.specs.code.Running.{size}
-use Rattle.m5_bytecode.specs.Spelling.{two, four, instruction_bytes, body_bytes, block_bytes, has_block, each_block}
+use Rattle.m5_bytecode.specs.Spelling.{two, four, instruction_bytes, body_bytes, block_bytes, code_bytes}
 
 pub fill_bytes : (out new : List ℕ) (i : Instruction) (here next : Body) → here ≡ Then i next → new ≡ out ++ instruction_bytes i → new ++ body_bytes next ≡ out ++ body_bytes here
 unfolding body_bytes
@@ -75,52 +75,10 @@ pub done_bytes : (o0 o1 : List ℕ) (here : Body) → here ≡ Done → o1 ≡ o
 unfolding body_bytes
 done_bytes o0 o1 here e n = ends_bytes o0 o1 here Done e n
 
-pub block_whole : (o0 o1 o4 : List ℕ) (label : ℕ) (b : Body) → o1 ≡ o0 ++ two label → o4 ≡ o1 ++ (four (length (body_bytes b)) ++ body_bytes b) → o4 ≡ o0 ++ block_bytes label b
+pub block_whole : (o0 o1 o4 : List ℕ) (label : ℕ) (b : Body) → o1 ≡ o0 ++ two label → o4 ≡ o1 ++ (four (length (body_bytes b)) ++ body_bytes b) → o4 ≡ o0 ++ block_bytes (record { label = label; body = b })
 block_whole o0 o1 o4 label b e f = f ∙ ap (λ (x : List ℕ). x ++ (four (length (body_bytes b)) ++ body_bytes b)) e ∙ append_assoc o0 (two label) (four (length (body_bytes b)) ++ body_bytes b)
 
--- one label more
-blocks_next : (f : ℕ → Body → List ℕ) (code : Flat) (from : ℕ) (starts : List ℕ) (i : ℕ) → i < length starts → each_block f code from (drop i starts) ≡ (if has_block (get_or starts i 0) then f from (body_at code (get_or starts i 0)) ++ each_block f code (from + 1) (drop (suc i) starts) else each_block f code (from + 1) (drop (suc i) starts))
-blocks_next f code from [] i h = absurd (omega arith)
-blocks_next f code from (s ∷ ss) zero h = refl
-blocks_next f code from (s ∷ ss) (suc i) h = blocks_next f code from ss i (omega arith)
-
-blocks_more : (f : ℕ → Body → List ℕ) (code : Flat) (from : ℕ) (starts : List ℕ) (i : ℕ) → i < length starts → each_block f code from (drop i starts) ≡ (if has_block (get_or starts i 0) then f from (body_at code (get_or starts i 0)) ++ each_block f code (from + 1) (drop (i + 1) starts) else each_block f code (from + 1) (drop (i + 1) starts))
-blocks_more f code from starts i h = subst (λ (n : ℕ). each_block f code from (drop i starts) ≡ (if has_block (get_or starts i 0) then f from (body_at code (get_or starts i 0)) ++ each_block f code (from + 1) (drop n starts) else each_block f code (from + 1) (drop n starts))) (let e : suc i ≡ i + 1 = omega arith in e) (blocks_next f code from starts i h)
-
-no_blocks : (f : ℕ → Body → List ℕ) (code : Flat) (n i : ℕ) (starts : List ℕ) → length starts ≤ i → each_block f code n (drop i starts) ≡ []
-no_blocks f code n zero [] h = refl
-no_blocks f code n (suc i) [] h = refl
-no_blocks f code n zero (s ∷ ss) h = absurd (omega arith)
-no_blocks f code n (suc i) (s ∷ ss) h = no_blocks f code n i ss (omega arith)
-
-pub all_blocks : (f : ℕ → Body → List ℕ) (code : Flat) (out : List ℕ) (n i : ℕ) (starts whole : List ℕ) → length starts ≤ i → out ++ each_block f code n (drop i starts) ≡ whole → out ≡ whole
-all_blocks f code out n i starts whole h e = sym (append-nil out) ∙ ap (λ (x : List ℕ). out ++ x) (sym (no_blocks f code n i starts h)) ∙ e
-
-none_here : (s : ℕ) → s ≡ 4294967295 → has_block s ≡ false
-none_here s e = rw e refl
-
-some_here : (s : ℕ) → (s ≡ 4294967295 → ⊥) → has_block s ≡ true
-some_here s h = rw (ne_eqb s 4294967295 h) refl
-
-pub block_written : (f : ℕ → Body → List ℕ) (code : Flat) (o0 o1 : List ℕ) (starts : List ℕ) (i s : ℕ) → i < length starts → s ≡ get_or starts i 0 → (s ≡ 4294967295 → ⊥) → o1 ≡ o0 ++ f i (body_at code s) → o1 ++ each_block f code (i + 1) (drop (i + 1) starts) ≡ o0 ++ each_block f code i (drop i starts)
-block_written f code o0 o1 starts i s h e n g =
-    let rest = each_block f code (i + 1) (drop (i + 1) starts) in
-    let here : each_block f code i (drop i starts) ≡ f i (body_at code s) ++ rest =
-    blocks_more f code i starts i h ∙ ap (λ (k : ℕ). if has_block k then f i (body_at code k) ++ rest else rest) (sym e) ∙ ap (λ (b : Bool). if b then f i (body_at code s) ++ rest else rest) (some_here s n) in
-    ap (λ (x : List ℕ). x ++ rest) g ∙ append_assoc o0 (f i (body_at code s)) rest ∙ ap (λ (x : List ℕ). o0 ++ x) (sym here)
-
-pub no_block_written : (f : ℕ → Body → List ℕ) (code : Flat) (o0 : List ℕ) (starts : List ℕ) (i s : ℕ) → i < length starts → s ≡ get_or starts i 0 → s ≡ 4294967295 → o0 ++ each_block f code (i + 1) (drop (i + 1) starts) ≡ o0 ++ each_block f code i (drop i starts)
-no_block_written f code o0 starts i s h e n =
-    let rest = each_block f code (i + 1) (drop (i + 1) starts) in
-    ap (λ (x : List ℕ). o0 ++ x) (sym (blocks_more f code i starts i h ∙ ap (λ (k : ℕ). if has_block k then f i (body_at code k) ++ rest else rest) (sym e) ∙ ap (λ (b : Bool). if b then f i (body_at code s) ++ rest else rest) (none_here s n)))
-
-start_item : (xs : List ℕ) (i : ℕ) → i < length xs → slice_get xs i ≡ Some (get_or xs i 0)
-start_item [] i h = absurd (omega arith)
-start_item (x ∷ xs) zero h = refl
-start_item (x ∷ xs) (suc i) h = start_item xs i (omega arith)
-
--- where a label's block begins
-pub block_there : (code : Flat) (starts : List ℕ) (i s : ℕ) → IsFlat code → starts ≡ code.starts → i < length starts → s ≡ get_or starts i 0 → (s ≡ 4294967295 → ⊥) → HasBody code s
-block_there code starts i s f e h g n =
-    let at : slice_get code.starts i ≡ Some s = ap (λ (x : List ℕ). slice_get x i) (sym e) ∙ start_item starts i h ∙ ap Some (sym g) in
-    (f.starts i s (ap start_in at ∙ some_start s n)).body
+pub code_whole : (o0 o1 o2 : List ℕ) (n : ℕ) (code : Flat) → o0 ≡ [] → o1 ≡ o0 ++ two n → n ≡ length (blocks_of code) → o2 ≡ o1 ++ flat_map block_bytes (blocks_of code) → o2 ≡ code_bytes code
+unfolding code_bytes
+code_whole o0 o1 o2 n code e f g h =
+    h ∙ ap (λ (x : List ℕ). x ++ flat_map block_bytes (blocks_of code)) (f ∙ ap (λ (x : List ℕ). x ++ two n) e ∙ ap two g)

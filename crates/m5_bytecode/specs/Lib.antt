@@ -1,3 +1,4 @@
 pub mod Spelling
-pub mod Code
+pub mod Server
 pub mod Listing
+pub mod code

@@ -6,7 +6,8 @@ use Rattle.m5_machine.specs.declared.step.Instruction.{Instruction}
 use Rattle.m5_machine.specs.declared.step.Instruction.TheVariants as i
 use Rattle.m5_machine.specs.Body.{Body, Then, If, Go, Ask, Send, Done}
 use Rattle.m5_machine.specs.Blocks.{Flat}
-use Rattle.m5_bytecode.specs.Spelling.{truth_byte, body_bytes, each_block}
+use Rattle.m5_machine.specs.Labelled.{Labelled, blocks_of}
+use Rattle.m5_bytecode.specs.Spelling.{truth_byte, body_bytes}
 
 -- a blank and the number
 abbrev pub operand : ℕ → List ℕ
@@ -48,12 +49,9 @@ body_words (Ask primitive argument next) = codes "ask" ++ (operand primitive ++ 
 body_words (Send world closure value) = codes "send" ++ (operand world ++ (operand closure ++ operand value))
 body_words Done = codes "done"
 
-abbrev pub line_of : ℕ → Body → List ℕ
-line_of label b = decimal label ++ (codes ": " ++ (body_words b ++ 10 ∷ []))
-
--- the lines of the labels from one on, in rising order
-abbrev pub lines_from : Flat → ℕ → List ℕ → List ℕ
-lines_from code label starts = each_block line_of code label starts
+-- a line: the label, a colon and a blank, and what the block's body shows
+abbrev pub line_of : Labelled → List ℕ
+line_of b = decimal b.label ++ (codes ": " ++ (body_words b.body ++ 10 ∷ []))
 
 abbrev pub listing_of : Flat → List ℕ
-listing_of code = lines_from code 0 code.starts
+listing_of code = flat_map line_of (blocks_of code)

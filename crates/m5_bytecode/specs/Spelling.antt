@@ -1,11 +1,12 @@
 -- How a code is spelled by bytes. Numbers have the most significant byte first.
-use Rattle.std.specs.Prelude.{ℕ, ◌+◌, List, [], ◌∷◌, ◌++◌, length, Bool, true, false, not, count_by, ◌==◌, if◌then◌else◌}
+use Rattle.std.specs.Prelude.{ℕ, List, [], ◌∷◌, ◌++◌, length, Bool, true, false}
 use Rattle.std.specs.List.{flat_map}
 use Rattle.std.specs.Int.{w16, w32, w64, to_be_bytes, cast_unsigned}
 use Rattle.m5_machine.specs.declared.step.Instruction.{Instruction}
 use Rattle.m5_machine.specs.declared.step.Instruction.TheVariants as i
 use Rattle.m5_machine.specs.Body.{Body, Then, If, Go, Ask, Send, Done}
-use Rattle.m5_machine.specs.Blocks.{Flat, body_at}
+use Rattle.m5_machine.specs.Blocks.{Flat}
+use Rattle.m5_machine.specs.Labelled.{Labelled, blocks_of}
 
 -- a number of two and of four bytes
 abbrev pub two : ℕ → List ℕ
@@ -52,26 +53,9 @@ body_bytes (Send world closure value) = 0x23 ∷ world ∷ (two closure ++ two v
 body_bytes Done = 0x24 ∷ []
 
 -- a block: its label, how long it is, and its body
-abbrev pub block_bytes : ℕ → Body → List ℕ
-block_bytes label b = two label ++ (four (length (body_bytes b)) ++ body_bytes b)
-
--- the places that stand for a block
-abbrev pub has_block : ℕ → Bool
-has_block start = not (start == 4294967295)
-
-abbrev pub label_count : List ℕ → ℕ
-label_count starts = count_by has_block starts
-
--- what is written of the block of each label from one on, in rising order
-abbrev pub each_block : (ℕ → Body → List ℕ) → Flat → ℕ → List ℕ → List ℕ
-each_block write code label [] = []
-each_block write code label (s ∷ ss) =
-    if has_block s then write label (body_at code s) ++ each_block write code (label + 1) ss
-    else each_block write code (label + 1) ss
-
-abbrev pub blocks_bytes : Flat → ℕ → List ℕ → List ℕ
-blocks_bytes code label starts = each_block block_bytes code label starts
+abbrev pub block_bytes : Labelled → List ℕ
+block_bytes b = two b.label ++ (four (length (body_bytes b.body)) ++ body_bytes b.body)
 
 -- how many labels have a block, and the blocks
-abbrev pub code_bytes : Flat → List ℕ
-code_bytes code = two (label_count code.starts) ++ blocks_bytes code 0 code.starts
+unfoldable pub code_bytes : Flat → List ℕ
+code_bytes code = two (length (blocks_of code)) ++ flat_map block_bytes (blocks_of code)

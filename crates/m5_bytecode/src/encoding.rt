@@ -3,8 +3,10 @@
 ghost use Rattle.std.specs.Prelude.{◌≡◌, ◌+◌, ◌-◌, ◌<◌, ◌≤◌, ◌^◌, ◌∷◌, ◌++◌, length, take, drop, OnOk, IfOk};
 ghost use Rattle.std.specs.Vec.{vec_len};
 ghost use Rattle.m5_machine.specs.Blocks.{HasBody, body_at};
-ghost use Rattle.m5_bytecode.specs.Spelling.{four, body_bytes, block_bytes, blocks_bytes, code_bytes};
-ghost use Rattle.m5_bytecode.specs.Code.{steps_length, IsServerCode};
+ghost use Rattle.std.specs.List.{flat_map};
+ghost use Rattle.m5_machine.specs.Labelled.{blocks_of};
+ghost use Rattle.m5_bytecode.specs.Spelling.{four, body_bytes, block_bytes, code_bytes};
+ghost use Rattle.m5_bytecode.specs.Server.{steps_length, IsServerCode};
 
 use crate::code::{Code, count_labels};
 use crate::putting::{put_byte, put_four, put_instruction, put_slot, put_slots, put_two};
@@ -72,7 +74,7 @@ fn put_body(code: &Blocks, start: u32, out: &mut Vec<u8>) -> Result<(), AllocErr
 fn put_block(code: &Blocks, label: u16, start: u32, out: &mut Vec<u8>) -> Result<(), AllocError>
     requires body { HasBody code.now start }
     requires small { steps_length code.now.steps < 2 ^ 32 }
-    ensures { OnOk result (out.new.items ≡ out.old.items ++ block_bytes label (body_at code.now start)) }
+    ensures { OnOk result (out.new.items ≡ out.old.items ++ block_bytes (record { label = label; body = body_at code.now start })) }
 {
     put_two(out, label)?;
     let from = out.len();
@@ -85,7 +87,7 @@ fn put_block(code: &Blocks, label: u16, start: u32, out: &mut Vec<u8>) -> Result
 /// Adds the blocks of all labels, in rising order.
 fn put_blocks(code: &Blocks, out: &mut Vec<u8>) -> Result<(), AllocError>
     requires { IsServerCode code.now }
-    ensures { OnOk result (out.new.items ≡ out.old.items ++ blocks_bytes code.now 0 code.now.starts) }
+    ensures { OnOk result (out.new.items ≡ out.old.items ++ flat_map block_bytes (blocks_of code.now)) }
 {
     let starts = code.starts();
     for label in 0..starts.len() {

@@ -2,12 +2,18 @@
 #![tactic(auto)]
 
 pub mod code;
+mod decoding;
 mod encoding;
+mod input;
+mod lengths;
 mod lines;
 mod putting;
+mod steps;
 #[cfg(test)]
 mod tests;
 mod words;
 
+pub use decoding::decode;
 pub use encoding::encode;
+pub use input::CodeEnd;
 pub use lines::listing;

@@ -1,43 +1,17 @@
 //! A code as a listing.
 
-ghost use Rattle.std.specs.Prelude.{◌≡◌, ◌<◌, ◌^◌, ◌++◌, length, OnOk, IfOk};
+ghost use Rattle.std.specs.Prelude.{◌≡◌, ◌<◌, ◌^◌, ◌++◌, OnOk, IfOk};
 ghost use Rattle.m5_machine.specs.Blocks.{HasBody, body_at};
-ghost use Rattle.m5_bytecode.specs.Spelling.{body_bytes};
-ghost use Rattle.m5_bytecode.specs.Code.{steps_length, IsServerCode};
-ghost use Rattle.m5_bytecode.specs.Listing.{body_words, line_of, lines_from, listing_of};
+ghost use Rattle.m5_bytecode.specs.Server.{steps_length, IsServerCode};
+ghost use Rattle.m5_bytecode.specs.Listing.{body_words, line_of, listing_of};
 
-use crate::code::{Code, instruction_length};
+use crate::code::Code;
+use crate::lengths::body_length;
 use crate::words::{put, put_instruction_words, put_number, put_operand, put_two_operands};
 use m5_machine::blocks::{Blocks, NO_BLOCK};
 use m5_machine::step::Step;
 use m5_terms::text::Text;
 use std::alloc::{AllocError, Global};
-
-/// How many bytes spell the body that begins at a place.
-fn body_length(code: &Blocks, start: u32) -> usize
-    requires body { HasBody code.now start }
-    requires small { steps_length code.now.steps < 2 ^ 32 }
-    ensures { result ≡ length (body_bytes (body_at code.now start)) }
-{
-    let mut at = start;
-    let mut total: usize = 0;
-    loop {
-        match code.step(at) {
-            Step::Fill(instruction) => {
-                total += instruction_length(instruction);
-                at += 1;
-            }
-            Step::If(_, second) => {
-                total += 7 + body_length(code, at + 1);
-                at = *second;
-            }
-            Step::Go(_, _) => return total + 5,
-            Step::Ask(_, _, _) => return total + 6,
-            Step::Send(_, _, _) => return total + 6,
-            Step::Done => return total + 1,
-        }
-    }
-}
 
 /// Adds the instructions and endings of the body that begins at a place.
 fn put_body_words(code: &Blocks, start: u32, out: &mut Vec<u8>) -> Result<(), AllocError>
@@ -91,7 +65,7 @@ fn put_line(code: &Blocks, label: usize, start: u32, out: &mut Vec<u8>) -> Resul
     requires body { HasBody code.now start }
     requires small { steps_length code.now.steps < 2 ^ 32 }
     requires label { label < 2 ^ 32 }
-    ensures { OnOk result (out.new.items ≡ out.old.items ++ line_of label (body_at code.now start)) }
+    ensures { OnOk result (out.new.items ≡ out.old.items ++ line_of (record { label = label; body = body_at code.now start })) }
 {
     put_number(out, label)?;
     put(out, b": ")?;

@@ -1,5 +1,5 @@
 -- Which blocks are a browser's code.
-use Rattle.std.specs.Prelude.{ℕ, pos, ◌≤◌, length, Bool, true, false, IsTrue, nat_le, int_le, ◌==◌, ◌||◌}
+use Rattle.std.specs.Prelude.{pos, ◌≤◌, length, Bool, true, false, IsTrue, nat_le, int_le, ◌==◌, ◌||◌}
 use Rattle.std.specs.List.{list_all}
 use Rattle.m5_terms.specs.Text.{text_byte}
 use Rattle.m5_machine.specs.declared.step.Instruction.{Instruction}

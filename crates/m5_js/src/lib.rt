@@ -2,3 +2,9 @@
 #![tactic(auto)]
 
 pub mod js;
+mod printing;
+#[cfg(test)]
+mod tests;
+mod words;
+
+pub use printing::print;

@@ -6,3 +6,8 @@ pub mod Going
 pub mod Shapes
 pub mod Placing
 pub mod Linking
+pub mod Flattening
+pub mod Laying
+pub mod EachStep
+pub mod Walking
+pub mod Kept

@@ -38,11 +38,11 @@ stands starts old new at (steps.Ask q a n) e l p f h = tt
 stands starts old new at (steps.Send w c v) e l p f h = tt
 stands starts old new at steps.Done e l p f h = tt
 
-and_first : (a b : Bool) → (a && b) ≡ true → a ≡ true
+pub and_first : (a b : Bool) → (a && b) ≡ true → a ≡ true
 and_first true b e = refl
 and_first false b e = e
 
-and_second : (a b : Bool) → (a && b) ≡ true → b ≡ true
+pub and_second : (a b : Bool) → (a && b) ≡ true → b ≡ true
 and_second true b e = e
 and_second false b e = absurd (let no : false ≡ true = e in cc)
 
@@ -112,7 +112,7 @@ start_if : (s start : ℕ) (b : Bool) → b ≡ (s == 4294967295) → (let o : O
 start_if s start true b e = absurd (let none : None ≡ Some start = e in cc)
 start_if s start false b e = let same : s ≡ start = cc in (same, λ f. let yes : (s == 4294967295) ≡ true = rw (same, f) refl in let no : false ≡ true = b ∙ yes in cc)
 
-start_is : (o : Option ℕ) (start : ℕ) → start_in o ≡ Some start → (o ≡ Some start) × (start ≡ 4294967295 → ⊥)
+pub start_is : (o : Option ℕ) (start : ℕ) → start_in o ≡ Some start → (o ≡ Some start) × (start ≡ 4294967295 → ⊥)
 start_is None start e = absurd (let none : None ≡ Some start = e in cc)
 start_is (Some s) start e = let f = start_if s start (s == 4294967295) refl e in (ap Some f.0, f.1)
 

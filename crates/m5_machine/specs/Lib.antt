@@ -7,4 +7,6 @@ pub mod Table
 pub mod Block
 pub mod Run
 pub mod Linked
+pub mod Labelled
+pub mod Numbers
 pub mod code

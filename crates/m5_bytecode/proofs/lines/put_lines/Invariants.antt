@@ -1,6 +1,8 @@
 use Rattle.std.proofs.Common.{◌≡◌, ◌++◌, drop}
-use Rattle.m5_bytecode.specs.Listing.{lines_from}
+use Rattle.std.specs.List.{flat_map}
+use Rattle.m5_machine.specs.Labelled.{blocks_from, blocks_of}
+use Rattle.m5_bytecode.specs.Listing.{line_of}
 use Rattle.m5_bytecode.proofs.lines.put_lines.Given as goal
 
 abbrev pub invariant-loop-label : goal.invariant-loop-label
-invariant-loop-label l = l.out.items ++ lines_from l.code l.label (drop l.label l.starts) ≡ l.fn.out.items ++ lines_from l.code 0 l.starts
+invariant-loop-label l = l.out.items ++ flat_map line_of (blocks_from l.code l.label (drop l.label l.starts)) ≡ l.fn.out.items ++ flat_map line_of (blocks_of l.code)

@@ -1,5 +1,5 @@
 -- Which blocks are a server's code.
-use Rattle.std.specs.Prelude.{ℕ, ◌<◌, ◌≤◌, ◌^◌, List, length, Bool, true, false, IsTrue, nat_le, ◌==◌, ◌&&◌, ◌||◌}
+use Rattle.std.specs.Prelude.{◌≡◌, ℕ, ◌<◌, ◌≤◌, ◌^◌, List, length, All, Bool, true, false, IsTrue, nat_le, ◌==◌, ◌&&◌, ◌||◌}
 use Rattle.std.specs.List.{list_all, sum_by}
 use Rattle.m5_terms.specs.Text.{text_byte}
 use Rattle.m5_machine.specs.declared.step.Instruction.{Instruction}
@@ -7,7 +7,11 @@ use Rattle.m5_machine.specs.declared.step.Instruction.TheVariants as i
 use Rattle.m5_machine.specs.declared.step.Step.{Step}
 use Rattle.m5_machine.specs.declared.step.Step.TheVariants as steps
 use Rattle.m5_machine.specs.Blocks.{Flat, IsFlat}
-use Rattle.m5_bytecode.specs.Spelling.{instruction_bytes, label_count}
+use Rattle.m5_machine.specs.Labelled.{blocks_of}
+use Rattle.m5_machine.specs.Numbers.{IsStep}
+use Rattle.m5_bytecode.specs.declared.input.CodeEnd.{CodeEnd}
+use Rattle.m5_bytecode.specs.declared.input.CodeEnd.TheVariants.{Bad, Memory}
+use Rattle.m5_bytecode.specs.Spelling.{instruction_bytes, code_bytes}
 
 -- a server's instructions: each text is one that a program's text may be, and `Same` is none
 abbrev pub server_instruction : Instruction → Bool
@@ -53,10 +57,23 @@ step_length steps.Done = 1
 abbrev pub steps_length : List Step → ℕ
 steps_length ss = sum_by step_length ss
 
--- blocks of a server's steps, at most 65,535 of them and with fewer than 2 ^ 32 bytes in all
+-- blocks of a server's steps, at most 65,535 of them, whose steps and whose spelling have fewer than
+-- 2 ^ 32 bytes
 pub record IsServerCode (code : Flat) : Type 0 where
   pub flat : IsFlat code
   pub steps : IsTrue (list_all server_step code.steps)
   pub small : steps_length code.steps < 2 ^ 32
   pub labels : length code.starts ≤ 65536
-  pub count : label_count code.starts < 2 ^ 16
+  pub count : length (blocks_of code) < 2 ^ 16
+  pub short : length (code_bytes code) < 2 ^ 32
+
+-- the code is a server's, its numbers are ones that the types hold, and it has this spelling
+pub record Spells (code : Flat) (bytes : List ℕ) : Type 0 where
+  pub server : IsServerCode code
+  pub numbers : All IsStep code.steps
+  pub spelled : code_bytes code ≡ bytes
+
+-- want of memory may end a reading anywhere, a fault where no code has the bytes
+abbrev pub NoCode : CodeEnd → List ℕ → Type 0
+NoCode Bad bytes = (code : Flat) → Spells code bytes → ⊥
+NoCode Memory bytes = Unit {0}

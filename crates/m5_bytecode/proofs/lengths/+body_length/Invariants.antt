@@ -2,7 +2,7 @@ use Rattle.std.proofs.Common.{◌≡◌, ◌+◌, ◌≤◌, length}
 use Rattle.m5_machine.specs.Blocks.{HasBody, body_at}
 use Rattle.m5_machine.specs.code.Running.{size}
 use Rattle.m5_bytecode.specs.Spelling.{body_bytes}
-use Rattle.m5_bytecode.proofs.lines.+body_length.Given as goal
+use Rattle.m5_bytecode.proofs.lengths.+body_length.Given as goal
 
 abbrev pub decreases-body_length : goal.decreases-body_length
 decreases-body_length l = size (body_at l.code.now l.start)

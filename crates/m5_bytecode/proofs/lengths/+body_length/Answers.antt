@@ -3,7 +3,7 @@ use Rattle.m5_machine.specs.Blocks.{Shows, body_at}
 use Rattle.m5_machine.specs.code.Running.{size}
 use Rattle.m5_bytecode.proofs.Sizes.{body_length, fill_len, if_len, go_len, ask_len, send_len, done_len}
 use Rattle.m5_bytecode.proofs.Writing.{fill_smaller, if_smaller}
-use Rattle.m5_bytecode.proofs.lines.+body_length.Goals as goal
+use Rattle.m5_bytecode.proofs.lengths.+body_length.Goals as goal
 
 pub overflow_add-total : goal.overflow_add-total
 overflow_add-total t c =

@@ -1,6 +1,6 @@
 use Rattle.std.proofs.Common.{◌≡◌, ◌<◌, ◌^◌, take}
-use Rattle.m5_bytecode.specs.Code.{steps_length}
-use Rattle.m5_bytecode.proofs.code.is_small.Given as goal
+use Rattle.m5_bytecode.specs.Server.{steps_length}
+use Rattle.m5_bytecode.proofs.lengths.is_small.Given as goal
 
 abbrev pub invariant-loop-step : goal.invariant-loop-step
 invariant-loop-step l = record {
