@@ -1,5 +1,3 @@
 pub mod Lists
-pub mod Rows
-pub mod Ordered
-pub mod Drafts
-pub mod Tables
+pub mod TypeRows
+pub mod Standing

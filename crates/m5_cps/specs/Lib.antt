@@ -14,4 +14,7 @@ pub mod TypeParts
 pub mod TypeOf
 pub mod Limits
 pub mod Program
+pub mod TypesByNumber
+pub mod Steps
+pub mod Table
 pub mod code

@@ -1,7 +1,3 @@
 -- What the data of the code stand for.
-pub mod Types
-pub mod TypeRows
-pub mod Steps
-pub mod Written
-pub mod Drafting
-pub mod Tables
+pub mod Rows
+pub mod TableCode

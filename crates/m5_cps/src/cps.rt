@@ -1,129 +1,93 @@
-//! A program of blocks, in one table.
+//! Programs in continuation-passing style: their blocks, seen by contracts as types, steps and the places where blocks begin.
 
 ghost use Rattle.std.specs.Prelude.{◌≡◌, ◌<◌, length};
-ghost use Rattle.std.specs.List.{AllByRecursion as Each};
-ghost use Rattle.m5_cps.specs.Blocks.{Blocks};
-ghost use Rattle.m5_cps.specs.Program.{IsProgram};
-ghost use Rattle.m5_cps.specs.code.Steps.{entry_of};
-ghost use Rattle.m5_cps.specs.code.Written.{place, start};
-ghost use Rattle.m5_cps.specs.code.Tables.{block_entry, blocks_of, HasCode, HasBlock, IsFinished, IsTableOf, Shows};
+ghost use Rattle.m5_cps.specs.Table.{IsTable, HasCode, Shows};
 
-use crate::draft::Draft;
-use crate::entry::{Entry, Row};
+use crate::entry::Entry;
 use crate::step::Step;
+use crate::steps::Steps;
 use crate::types::Types;
 use std::marker::Model;
 
-/// Blocks by number, each typed and within the limits. A block's steps begin at its place, and go on as each step says.
+/// A block over no slots: how it is entered, and the place where it begins.
+#[derive(Clone, Copy)]
+pub struct Start {
+    pub entry: Entry,
+    pub place: usize,
+}
+
+/// The blocks of a program, typed and within the limits. Code begins where each does.
 #[derive(Drop)]
 pub struct Cps {
-    steps: Vec<Step>,
-    places: Vec<usize>,
-    blocks: Vec<Row>,
-    types: Types,
-    functions: Vec<usize>,
-    main: usize,
+    held_types: Types,
+    held_steps: Steps,
+    held_functions: Vec<Start>,
+    held_main: usize,
 }
 
 impl Model for Cps {
-    ghost use Rattle.std.specs.Coded.{codes};
-    ghost use Rattle.m5_terms.specs.TypeExpression.{type_code};
-    ghost use Rattle.m5_cps.specs.code.Tables.{Table, IsTable};
+    ghost use Rattle.m5_cps.specs.Table.{Table, IsTable};
+    ghost use Rattle.m5_cps.specs.code.TableCode.{table_code};
 
     ghost Value = { Table };
 
-    ghost coded = { Prim.hlevel (codes, type_code) };
+    ghost coded = { table_code };
 
-    ghost view = { λ c. record { written = record { steps = c.steps.items; places = c.places.items; blocks = c.blocks.items; types = c.types }; functions = c.functions.items; main = c.main } };
+    ghost view = { λ c. record { types = c.held_types; steps = c.held_steps; functions = c.held_functions.items; main = c.held_main } };
 
-    ghost invariant = { λ c. IsTable (record { written = record { steps = c.steps.items; places = c.places.items; blocks = c.blocks.items; types = c.types }; functions = c.functions.items; main = c.main }) };
+    ghost invariant = { λ c. IsTable (record { types = c.held_types; steps = c.held_steps; functions = c.held_functions.items; main = c.held_main }) };
 }
 
 impl Cps {
-    /// The program whose blocks are written, by the numbers of the declared functions' blocks in their order, and of main's.
-    pub fn finish(draft: Draft, functions: Vec<usize>, main: usize) -> Cps
-        requires { IsFinished (record { written = draft; functions = functions.items; main = main }) }
-        ensures is { result ≡ record { written = draft; functions = functions.items; main = main } }
-        ensures blocks { (B : Blocks) → IsTableOf (record { written = draft; functions = functions.items; main = main }) B → blocks_of result ≡ B }
+    /// The blocks that begin at these places of these steps.
+    pub fn make(types: Types, steps: Steps, functions: Vec<Start>, main: usize) -> Cps
+        requires { IsTable (record { types = types; steps = steps; functions = functions.items; main = main }) }
+        ensures { result ≡ record { types = types; steps = steps; functions = functions.items; main = main } }
     {
-        let (steps, places, blocks, types) = draft.into_parts();
         Cps {
-            steps,
-            places,
-            blocks,
-            types,
-            functions,
-            main,
+            held_types: types,
+            held_steps: steps,
+            held_functions: functions,
+            held_main: main,
         }
     }
 
-    /// Its blocks are a program's, and code stands where those of the functions and of main begin. The call does nothing.
-    pub fn is_program(&self)
-        ensures program { IsProgram (blocks_of self.now) }
-        ensures functions { Each (HasBlock self.now.written) self.now.functions }
-        ensures main { HasBlock self.now.written self.now.main }
-    {
-        let _ = &self.steps;
-    }
-
-    /// How many blocks there are.
-    pub fn count(&self) -> usize
-        ensures { result ≡ length self.now.written.blocks }
-    {
-        self.blocks.len()
-    }
-
-    /// The numbers of the declared functions' blocks, in their order.
-    pub fn functions(&self) -> &[usize]
-        ensures { result.now ≡ self.now.functions }
-    {
-        self.functions.as_slice()
-    }
-
-    /// The number of main's block.
-    pub fn main(&self) -> usize
-        ensures { result ≡ self.now.main }
-    {
-        self.main
-    }
-
-    /// The types by number.
+    /// The types, by their numbers.
     pub fn types(&self) -> &Types
-        ensures { result.now ≡ self.now.written.types }
+        ensures { result.now ≡ self.now.types }
     {
-        &self.types
+        &self.held_types
     }
 
-    /// How a block is entered.
-    pub fn entry(&self, block: usize) -> Entry
-        requires { block < length self.now.written.blocks }
-        ensures { entry_of self.now.written.types result ≡ block_entry self.now.written block }
+    /// How many steps there are: each place is below.
+    pub fn count(&self) -> usize
+        ensures { result ≡ length self.now.steps }
     {
-        self.blocks[block].entry
+        self.held_steps.count()
     }
 
-    /// Where a block's steps begin.
-    pub fn start(&self, block: usize) -> usize
-        requires { HasBlock self.now.written block }
-        ensures { result ≡ start self.now.written block }
+    /// The step at a place where code begins.
+    pub fn step(&self, place: usize) -> &Step
+        requires { HasCode self.now place }
+        ensures there { place < length self.now.steps }
+        ensures shows { Shows self.now place result.now }
     {
-        let label = self.blocks[block].label;
-        self.places[label]
+        self.held_steps.get(place)
     }
 
-    /// The place of a label at which code stands.
-    pub fn place(&self, label: usize) -> usize
-        requires { HasCode self.now.written (place self.now.written label) }
-        ensures { result ≡ place self.now.written label }
+    /// The blocks of the declared functions, in their order.
+    pub fn functions(&self) -> &[Start]
+        ensures starts { result.now ≡ self.now.functions }
+        ensures code { IsTable self.now }
     {
-        self.places[label]
+        self.held_functions.as_slice()
     }
 
-    /// The step at a place where code stands.
-    pub fn step(&self, at: usize) -> &Step
-        requires { HasCode self.now.written at }
-        ensures { Shows self.now.written at result.now }
+    /// Where main's block begins.
+    pub fn main(&self) -> usize
+        ensures start { result ≡ self.now.main }
+        ensures code { IsTable self.now }
     {
-        &self.steps[at]
+        self.held_main
     }
 }

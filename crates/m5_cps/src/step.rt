@@ -1,11 +1,15 @@
-//! The steps of blocks, as they stand in a table. A slot goes by its number from 0, a type by its number in the table of types.
+//! Straight forms, tests and endings, as they stand one after the other in a program's list of steps.
 
+use crate::entry::Entry;
+use m5_terms::form::BinaryForm;
 use m5_terms::text::Text;
-use m5_terms::types::{Op, Prim, World};
+use m5_terms::types::{Prim, World};
 
-/// A value without parts. `Here` is the address of the site's world, `Nil` has the type of the elements.
+/// The value of a form without parts. `Nil` has the type of the elements.
 #[derive(Drop)]
 pub enum Constant {
+    Glob(u32),
+    Extern(Prim),
     Unit,
     Bool(bool),
     Int(i64),
@@ -13,13 +17,11 @@ pub enum Constant {
     Addr(World),
     Here,
     Nil(usize),
-    Glob(u32),
-    Extern(Prim),
 }
 
-/// What is made of one value. `Inl` and `Inr` have the type of the whole sum.
+/// What is made of one value. `Inl` and `Inr` have the whole sum's type.
 #[derive(Clone, Copy)]
-pub enum One {
+pub enum Operation {
     Fst,
     Snd,
     StrOf,
@@ -32,53 +34,55 @@ pub enum One {
     Inr(usize),
 }
 
-/// What is made of two values.
-#[derive(Clone, Copy)]
-pub enum Two {
-    Pair,
-    Cons,
-    Store,
-    Binary(Op),
-}
-
-/// A form whose value fills the next slot. `Unheld` and `Unsham` give what is held or in a sham, `Spawn` begins a thread that
-/// enters a closure.
+/// A form whose value fills the next slot, over the slots of its parts.
 #[derive(Drop)]
 pub enum Straight {
     Constant(Constant),
-    One(One, u32),
-    Two(Two, u32, u32),
+    One(Operation, u32),
+    Two(BinaryForm, u32, u32),
     Unheld(u32),
     Unsham(u32),
     Spawn(u32),
 }
 
-/// What a block may ask of a value.
+/// What a block may ask of a value, to go on in one of two ways.
 #[derive(Clone, Copy)]
 pub enum Test {
-    IfTrue,
-    IfLeft,
-    IfNil,
-    IfHere,
+    True,
+    Left,
+    Nil,
+    Here,
 }
 
-/// How a block ends: `Go` enters a closure with a value, `Call` has a function, its argument and a continuation, `Ask` an
-/// argument and a continuation, `Send` an address, a closure and its value.
+/// How a block ends.
 #[derive(Clone, Copy)]
 pub enum Ending {
+    /// Enters the closure of the first slot with the second.
     Go(u32, u32),
+    /// Calls the function of the first slot with the second, to go on with the third.
     Call(u32, u32, u32),
+    /// Asks by a primitive with the argument in the first slot, to go on with the second.
     Ask(Prim, u32, u32),
+    /// To the address in the first slot go the closure of the second and the third.
     Send(u32, u32, u32),
     Done,
 }
 
-/// One step. After a straight form, and where a test holds, the next step follows. A closure is of a block, and the steps go
-/// on at a label; where a test does not hold they go on at its label.
+/// A step of a block. The code after a straight form stands right behind it.
 #[derive(Drop)]
 pub enum Step {
-    Fill(Straight),
-    Closure(usize, usize),
-    Test(Test, u32, usize),
-    End(Ending),
+    Straight(Straight),
+    /// The next slot is a closure of the block at a place; the code goes on at another.
+    Closure {
+        entry: Entry,
+        block: usize,
+        next: usize,
+    },
+    /// Where the test holds, the code goes on right behind it, else at a place.
+    Test {
+        test: Test,
+        slot: u32,
+        second: usize,
+    },
+    Ends(Ending),
 }

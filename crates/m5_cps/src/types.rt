@@ -1,9 +1,11 @@
-//! Types by number, each written once: its parts stand before it, so that types share their parts.
+//! Types by number: a type's parts stand before it, so that types share their parts. A number without a type stands for unit.
 
-ghost use Rattle.std.specs.Prelude.{◌≡◌, ◌<◌, [], ◌∷◌, ◌++◌, length, slice_get, Some, IfOk, OnOk, OnErr};
-ghost use Rattle.m5_cps.specs.code.Types.{row_type, IsRow, HasType, HasRow, HaveTypes};
+ghost use Rattle.std.specs.Prelude.{◌≡◌, ◌<◌, [], ◌∷◌, ◌++◌, length, slice_get, IfOk, OnOk, OnErr};
+ghost use Rattle.m5_terms.specs.TypeExpression.{unit};
+ghost use Rattle.m5_cps.specs.TypesByNumber.{row_type, type_in};
+ghost use Rattle.m5_cps.specs.code.Rows.{IsRow, IsSettledPart, IsSettled};
 
-use m5_terms::types::{Shape, Ty, TypeBox, World};
+use m5_terms::types::World;
 use std::alloc::{AllocError, Global};
 use std::marker::Model;
 
@@ -24,7 +26,7 @@ pub enum TypeRow {
     At(usize, World),
 }
 
-/// Types by number, from 0.
+/// Types by number, from 0. The first is unit.
 #[derive(Drop)]
 pub struct Types {
     rows: Vec<TypeRow>,
@@ -39,109 +41,86 @@ impl Model for Types {
 
     ghost coded = { coded_list type_code };
 
-    ghost use Rattle.m5_cps.specs.code.TypeRows.{types_of, AreRows};
+    ghost use Rattle.m5_cps.specs.code.Rows.{types_of, AreTypes};
 
     ghost view = { λ t. types_of t.rows.items };
 
-    ghost invariant = { λ t. AreRows t.rows.items };
+    ghost invariant = { λ t. AreTypes t.rows.items };
 }
 
 impl Types {
-    /// No types yet.
-    pub fn new(alloc: Global) -> Types
-        ensures { result ≡ [] }
+    /// Unit alone.
+    pub fn new(alloc: Global) -> Result<Types, AllocError>
+        ensures { IfOk result (λ t. t ≡ unit ∷ []) }
     {
-        Types {
-            rows: Vec::new(alloc),
-        }
+        let mut rows = Vec::new(alloc);
+        rows.push(TypeRow::Unit)?;
+        Ok(Types { rows })
     }
 
-    /// How many types there are.
+    /// The number of unit.
+    pub fn unit(&self) -> usize
+        ensures { slice_get self.now result ≡ Some unit }
+    {
+        let _ = &self.rows;
+        0
+    }
+
+    /// How many types there are: the number of the next one.
     pub fn count(&self) -> usize
         ensures { result ≡ length self.now }
     {
         self.rows.len()
     }
 
-    /// Adds a type whose parts are there, and gives its number. Where memory is wanting, nothing is added.
-    pub fn push(&mut self, row: TypeRow) -> Result<usize, AllocError>
-        requires { IsRow (length self.old) row }
-        ensures number { IfOk result (λ n. n ≡ length self.old) }
+    /// Adds a type. Where memory is wanting, nothing is added.
+    pub fn push(&mut self, row: TypeRow) -> Result<(), AllocError>
         ensures ok { OnOk result (self.new ≡ self.old ++ row_type self.old row ∷ []) }
         ensures err { OnErr result (self.new ≡ self.old) }
     {
-        let number = self.rows.len();
-        self.rows.push(row)?;
-        Ok(number)
+        let settled = settled_row(row, self.rows.len());
+        self.rows.push(settled)?;
+        Ok(())
     }
 
-    /// The outermost constructor of a type, with the numbers of its parts, which stand before it.
+    /// The outermost constructor of a type, with the numbers of its parts.
     pub fn row(&self, number: usize) -> TypeRow
-        requires { number < length self.now }
-        ensures is { slice_get self.now number ≡ Some (row_type self.now result) }
-        ensures parts { IsRow number result }
+        ensures is { row_type self.now result ≡ type_in self.now number }
+        ensures parts { IsRow (length self.now) result }
     {
-        self.rows[number]
-    }
-
-    /// Writes a type with its parts, and gives its number. After an error some of its parts may be written.
-    #[cycle(write_type)]
-    pub fn write(&mut self, ty: &Ty) -> Result<usize, AllocError>
-        ensures { IfOk result (λ n. HasType self.old self.new n ty.now) }
-    {
-        let row = self.row_of(ty)?;
-        let number = self.push(row)?;
-        Ok(number)
-    }
-
-    /// The row of a type, whose parts are written.
-    #[cycle(write_type)]
-    fn row_of(&mut self, ty: &Ty) -> Result<TypeRow, AllocError>
-        ensures { IfOk result (λ r. HasRow self.old self.new r ty.now) }
-    {
-        match &ty.shape {
-            Shape::Unit => Ok(TypeRow::Unit),
-            Shape::Bool => Ok(TypeRow::Bool),
-            Shape::Int => Ok(TypeRow::Int),
-            Shape::Str => Ok(TypeRow::Str),
-            Shape::Addr(world) => Ok(TypeRow::Address(*world)),
-            Shape::Prod(a, b) => {
-                let parts = self.write_both(a, b)?;
-                Ok(TypeRow::Product(parts.0, parts.1))
-            }
-            Shape::Sum(a, b) => {
-                let parts = self.write_both(a, b)?;
-                Ok(TypeRow::Sum(parts.0, parts.1))
-            }
-            Shape::Fun(a, b) => {
-                let parts = self.write_both(a, b)?;
-                Ok(TypeRow::Function(parts.0, parts.1))
-            }
-            Shape::List(a) => {
-                let part = self.write(a.get())?;
-                Ok(TypeRow::List(part))
-            }
-            Shape::Cell(a) => {
-                let part = self.write(a.get())?;
-                Ok(TypeRow::Cell(part))
-            }
-            Shape::Sham(a) => {
-                let part = self.write(a.get())?;
-                Ok(TypeRow::Sham(part))
-            }
-            Shape::At(a, world) => {
-                let part = self.write(a.get())?;
-                Ok(TypeRow::At(part, *world))
-            }
+        if number < self.rows.len() {
+            self.rows[number]
+        } else {
+            TypeRow::Unit
         }
     }
+}
 
-    #[cycle(write_type)]
-    fn write_both(&mut self, a: &TypeBox, b: &TypeBox) -> Result<(usize, usize), AllocError>
-        ensures { IfOk result (λ p. HaveTypes self.old self.new p.0 p.1 a.now b.now) }
-    {
-        let first = self.write(a.get())?;
-        let second = self.write(b.get())?;
-        Ok((first, second))
+/// The number itself, or that of unit where it has no type.
+fn settled_part(number: usize, count: usize) -> usize
+    requires { 0 < count }
+    ensures { IsSettledPart number count result }
+{
+    if number < count { number } else { 0 }
+}
+
+/// The same type, with parts that have types.
+fn settled_row(row: TypeRow, count: usize) -> TypeRow
+    requires { 0 < count }
+    ensures { IsSettled row count result }
+{
+    match row {
+        TypeRow::Product(a, b) => {
+            TypeRow::Product(settled_part(a, count), settled_part(b, count))
+        }
+        TypeRow::Sum(a, b) => TypeRow::Sum(settled_part(a, count), settled_part(b, count)),
+        TypeRow::Function(a, b) => {
+            TypeRow::Function(settled_part(a, count), settled_part(b, count))
+        }
+        TypeRow::List(a) => TypeRow::List(settled_part(a, count)),
+        TypeRow::Cell(a) => TypeRow::Cell(settled_part(a, count)),
+        TypeRow::Sham(a) => TypeRow::Sham(settled_part(a, count)),
+        TypeRow::At(a, world) => TypeRow::At(settled_part(a, count), world),
+        other => other,
     }
 }

@@ -1,16 +1,18 @@
-use Rattle.std.proofs.Common.{◌≡◌, ◌<◌, length, Some, slice_get, ap, subst, ◌∙◌, sym, refl, arith}
-use Rattle.std.proofs.lemmas.Option.{slice_get_read}
-use Rattle.m5_cps.specs.code.Written.{IsOrdered}
-use Rattle.m5_cps.specs.code.Tables.{Table, code_at}
-use Rattle.m5_cps.proofs.Tables.{inside, shows}
+use Rattle.std.proofs.Common.{◌≡◌, ℕ, ◌<◌, ◌+◌, length, Some, slice_get, ap, subst, ◌∙◌, sym, arith}
+use Rattle.m5_cps.specs.Table.{Table, HasCode}
+use Rattle.m5_cps.proofs.Standing.{step_there, shown}
 use Rattle.m5_cps.proofs.cps.Cps.step.Goals as goal
 
-pub returns : goal.returns
-returns c =
-    let W = c.args.self.now.written in
-    let ordered : IsOrdered W = subst (λ (T : Table). IsOrdered T.written) c.self.view_is c.self.invariant.ordered in
-    let there : c.args.at < length W.steps = inside W (code_at W c.args.at) c.args.at c.requires in
-    let same : length c.self.inside.steps.items ≡ length W.steps = ap (λ (T : Table). length T.written.steps) c.self.view_is in
-    let read : slice_get c.self.inside.steps.items c.args.at ≡ Some c.index.result.now =
-    slice_get_read c.self.inside.steps.items (length c.self.inside.steps.items) c.args.at c.index.result.now refl (omega (arith, there, same)) c.index.ensures in
-    shows W ordered (code_at W c.args.at) c.args.at c.index.result.now c.requires (sym (ap (λ (T : Table). slice_get T.written.steps c.args.at) c.self.view_is) ∙ read)
+-- the place is one of a step
+there : (T : Table) (at : ℕ) → HasCode T at → at < length T.steps
+there T at h = let l : at < 0 + length T.steps = step_there T.types 0 T.steps at h.code h.is in omega (arith, l)
+
+pub get-requires : goal.get-requires
+get-requires c = rw (ap (λ (T : Table). T.steps) c.self.view_is) (there c.args.self.now c.args.place c.requires)
+
+pub returns-clause-there : goal.returns-clause-there
+returns-clause-there c = there c.args.self.now c.args.place c.requires
+
+pub returns-clause-shows : goal.returns-clause-shows
+returns-clause-shows c =
+    shown c.args.self.now c.args.place c.get.result.now c.requires (sym (ap (λ (T : Table). slice_get T.steps c.args.place) c.self.view_is) ∙ c.get.ensures)

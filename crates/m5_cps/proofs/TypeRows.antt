@@ -1,13 +1,13 @@
 -- Types for which rows stand keep their numbers as rows are added.
-use Rattle.std.proofs.Common.{◌≡◌, ℕ, zero, suc, ◌+◌, ◌<◌, List, [], ◌∷◌, ◌++◌, length, Some, slice_get, refl, sym, ap, subst, ◌∙◌, arith, append_assoc}
+use Rattle.std.proofs.Common.{◌≡◌, ℕ, zero, suc, ◌+◌, ◌<◌, ◌≤◌, List, [], ◌∷◌, ◌++◌, length, Option, Some, None, slice_get, refl, sym, ap, subst, ◌∙◌, arith, length-append, append_assoc}
+use Rattle.std.proofs.lemmas.Option.{slice_get_within}
 use Rattle.m5_terms.specs.TypeExpression as type
 use Rattle.m5_terms.specs.TypeExpression.{TypeExpression}
 use Rattle.m5_cps.specs.declared.types.TypeRow.{TypeRow}
 use Rattle.m5_cps.specs.declared.types.TypeRow.TheVariants as row
-use Rattle.std.proofs.lemmas.Option.{slice_get_within}
-use Rattle.m5_cps.specs.code.Types.{or_unit, type_in, row_type, IsRow, Extends, HasType, HasRow, HaveTypes}
-use Rattle.m5_cps.specs.code.TypeRows.{types_after, types_of, AreRowsAfter, AreRows}
-use Rattle.m5_cps.proofs.Lists.{get_before, get_last, length_push}
+use Rattle.m5_cps.specs.TypesByNumber.{or_unit, type_in, row_type}
+use Rattle.m5_cps.specs.code.Rows.{IsRow, types_after, types_of, AreRowsAfter, AreRows, AreTypes, IsSettledPart, IsSettled}
+use Rattle.m5_cps.proofs.Lists.{get_before, get_last, get_past, length_push}
 
 pub count_after : (known : List TypeExpression) (rows : List TypeRow) → length (types_after known rows) ≡ length known + length rows
 count_after known [] = omega arith
@@ -83,20 +83,54 @@ at_after known (q ∷ rows) (suc k) r h e =
 pub row_at : (rows : List TypeRow) (k : ℕ) (r : TypeRow) → AreRows rows → slice_get rows k ≡ Some r → RowAt k (types_of rows) r
 row_at rows k r h e = subst (λ n. RowAt n (types_of rows) r) (let z : 0 + k ≡ k = omega arith in z) (at_after [] rows k r h e)
 
--- one extension after the other
-more_after : (a b c : List TypeExpression) → Extends a b → Extends b c → Extends a c
-more_after a b c h k = (h.0 ++ k.0, k.1 ∙ ap (λ l. l ++ k.0) h.1 ∙ append_assoc a h.0 k.0)
+-- a row stays one where more types are
+wider : (n m : ℕ) (r : TypeRow) → n ≤ m → IsRow n r → IsRow m r
+wider n m (row.Product a b) l h = (omega (arith, l, h.0), omega (arith, l, h.1))
+wider n m (row.Sum a b) l h = (omega (arith, l, h.0), omega (arith, l, h.1))
+wider n m (row.Function a b) l h = (omega (arith, l, h.0), omega (arith, l, h.1))
+wider n m (row.List a) l h = omega (arith, l, h)
+wider n m (row.Cell a) l h = omega (arith, l, h)
+wider n m (row.Sham a) l h = omega (arith, l, h)
+wider n m (row.At a w) l h = omega (arith, l, h)
+wider n m row.Unit l h = tt
+wider n m row.Bool l h = tt
+wider n m row.Int l h = tt
+wider n m row.Str l h = tt
+wider n m (row.Address w) l h = tt
 
--- a type that is added behind its parts
-pub has_type : (old mid new : List TypeExpression) (r : TypeRow) (n : ℕ) (A : TypeExpression) → HasRow old mid r A → n ≡ length mid → new ≡ mid ++ row_type mid r ∷ [] → HasType old new n A
-has_type old mid new r n A h number e = record {
-  extends = more_after old mid new h.extends (row_type mid r ∷ [], e);
-  is = ap (λ k. slice_get new k) number ∙ ap (λ l. slice_get l (length mid)) e ∙ get_last mid (row_type mid r) [] ∙ ap Some h.is;
-}
+-- the row that was read at a number
+pub row_read : (rows : List TypeRow) (types : List TypeExpression) (n : ℕ) (r : TypeRow) → AreTypes rows → types_of rows ≡ types → slice_get rows n ≡ Some r
+    → (row_type types r ≡ type_in types n) × IsRow (length types) r
+row_read rows types n r h v e =
+    let a : RowAt n types r = subst (λ (t : List TypeExpression). RowAt n t r) v (row_at rows n r h.parts e) in
+    (sym (ap or_unit a.is), wider n (length types) r (let z : n ≤ length types = omega (arith, within n types r a) in z) a.parts)
+  where
+    within : (n : ℕ) (types : List TypeExpression) (r : TypeRow) → RowAt n types r → n < length types
+    within n types r a = slice_get_within types n (row_type types r) a.is
 
-pub have_types : (old mid new : List TypeExpression) (n m : ℕ) (A B : TypeExpression) → HasType old mid n A → HasType mid new m B → HaveTypes old new n m A B
-have_types old mid new n m A B h k = record {
-  extends = more_after old mid new h.extends k.extends;
-  first = ap (λ l. slice_get l n) k.extends.1 ∙ get_before mid k.extends.0 n (slice_get_within mid n A h.is) ∙ h.is;
-  second = k.is;
-}
+pub none_read : (rows : List TypeRow) (types : List TypeExpression) (n : ℕ) → types_of rows ≡ types → length rows ≤ n → type.unit ≡ type_in types n
+none_read rows types n v l = sym (ap or_unit (get_past types n (let z : length types ≤ n = omega (arith, ap length v, count rows, l) in z)))
+
+unit_first : (rows : List TypeRow) (types : List TypeExpression) → AreTypes rows → types_of rows ≡ types → type_in types 0 ≡ type.unit
+unit_first rows types h v = sym (row_read rows types 0 row.Unit h v h.first).0
+
+pub settled_same : (rows : List TypeRow) (types : List TypeExpression) (r q : TypeRow) → AreTypes rows → types_of rows ≡ types → IsSettled r (length rows) q → row_type types q ≡ row_type types r
+settled_same rows types r q h v s = s.same types (omega (arith, ap length v, count rows)) (unit_first rows types h v)
+
+pub types_pushed : (rows more : List TypeRow) (r q : TypeRow) → AreTypes rows → IsSettled r (length rows) q → more ≡ rows ++ q ∷ [] → AreTypes more
+types_pushed rows more r q h s e =
+    subst AreTypes (sym e)
+    (record { parts = rows_pushed rows q h.parts (subst (λ n. IsRow n q) (sym (count rows)) s.parts); first = get_before rows (q ∷ []) 0 (some_there rows h.first) ∙ h.first })
+  where
+    some_there : (rows : List TypeRow) → slice_get rows 0 ≡ Some row.Unit → 0 < length rows
+    some_there [] e = absurd (cc)
+    some_there (r ∷ rows) e = omega arith
+
+pub some_type : (rows : List TypeRow) → AreTypes rows → 0 < length rows
+some_type [] h = absurd (let e = h.first in cc)
+some_type (r ∷ rows) h = omega arith
+
+pub unit_there : (rows : List TypeRow) (types : List TypeExpression) → AreTypes rows → types_of rows ≡ types → slice_get types 0 ≡ Some type.unit
+unit_there rows types h v =
+    let a : RowAt 0 types row.Unit = subst (λ (t : List TypeExpression). RowAt 0 t row.Unit) v (row_at rows 0 row.Unit h.parts h.first) in
+    a.is
