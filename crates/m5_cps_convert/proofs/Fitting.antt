@@ -30,7 +30,7 @@ use Rattle.m5_typing.specs.Program as source
 use Rattle.m5_typing.proofs.Declared.{declared_is_typed}
 use Rattle.m5_cps.specs.Slots.{no_slots, entry_slots}
 use Rattle.m5_cps.specs.Fits.{Fits as TypedFits}
-use Rattle.m5_cps.specs.Limits.{parts_then, parts_else, AreLimited}
+use Rattle.m5_cps.specs.Limits.{parts_then, parts_else, begun_slots, AreLimited}
 use Rattle.m5_cps.specs.Program as blocks
 use Rattle.m5_cps.specs.Program.{IsBlock, IsFunctionBlock}
 use Rattle.m5_cps_convert.specs.Convert.{function_code, function_block, main_code, program_blocks}
@@ -42,7 +42,7 @@ use Rattle.m5_cps_convert.proofs.Bounds.{Inner, Small, small_at, called_small, s
 use Rattle.m5_cps_convert.proofs.Programs.{program_good, main_narrow, all_at}
 use Rattle.m5_cps_convert.proofs.TypedWhole.{setting_same, function_fits, main_fits}
 
-filled_least : (y : Entry) → entry_filled y 0 ≤ 3
+filled_least : (y : Entry) → begun_slots y ≤ 4
 filled_least (by_value m T) = omega arith
 filled_least (by_call m A B) = omega arith
 
@@ -59,7 +59,7 @@ else_filled block.if_nil n = omega arith
 else_filled block.if_here n = omega arith
 
 -- what takes at most w slots with it, nests little and fills at most so many
-limited : (w L : ℕ) → w + (3 + L) ≤ 65536 → (c : Code) (n : ℕ) → Narrow w c n → Inner 502 L c → AreLimited n c
+limited : (w L : ℕ) → w + (28 + L) ≤ 65536 → (c : Code) (n : ℕ) → Narrow w c n → Inner L c → AreLimited n c
 limited w L h (straight f c) n r i = limited w L h c (suc n) r i
 limited w L h (closure y b c) n r i = (record { depth = omega (arith, i.0); slots = omega (arith, h, r.0, i.1, filled_least y) }, limited w L h b (entry_filled y n) r.1 i.2, limited w L h c (suc n) r.2 i.3)
 limited w L h (test t x b c) n r i = (subst (λ k. AreLimited k b) (then_filled t n) (limited w L h b (yes_filled t n) r.1 i.0), subst (λ k. AreLimited k c) (else_filled t n) (limited w L h c (no_filled t n) r.2 i.1))
@@ -129,10 +129,10 @@ function_within (h ∷ gs) zero g e = let q : h ≡ g = cc in subst (λ y. funct
 function_within (h ∷ gs) (suc i) g e = omega (arith, function_within gs i g e, sum_by-cons function_nodes h gs)
 
 -- a function's block, and main's
-function_small : (E : Setting) (L : ℕ) (g : Function) → 3 * node_count g.body ≤ L → Small 502 L (function_code E g) (3 * node_count g.body) (3 * node_count g.body) 501
+function_small : (E : Setting) (L : ℕ) (g : Function) → 3 * node_count g.body ≤ L → Small L (function_code E g) (3 * node_count g.body) (3 * node_count g.body) 501
 function_small E L g h = called_small L E g.body (small_at L E g.body) (fn_scope g.parameter g.ty 0 (empty_scope (only g.world))) 0 refl h
 
-main_small : (E : Setting) (L : ℕ) (e : Expression) → 3 * node_count e ≤ L → Small 502 L (main_code E e) (3 * node_count e) (3 * node_count e) 501
+main_small : (E : Setting) (L : ℕ) (e : Expression) → 3 * node_count e ≤ L → Small L (main_code E e) (3 * node_count e) (3 * node_count e) 501
 main_small E L e h = start_small L E e (small_at L E e) (empty_scope (only Home)) 0 refl h
 
 each_of : (Q : Block → Type 0) (f : Function → Block) (gs : List Function) → ((i : ℕ) (g : Function) → slice_get gs i ≡ Some g → Q (f g)) → Each Q (map f gs)
@@ -143,14 +143,14 @@ module _ (P : ProgramTerm) (d : IsProgram P) where
   abbrev E : Setting
   E = source.setting_of P.functions
 
-  is_block : (b : Block) → TypedFits E (world_of (entry_mode b.entry)) (entry_filled b.entry 0) (entry_slots b.entry 0 no_slots) b.code → Small 502 48000 b.code 48000 48000 501 → Narrow (widest P) b.code (entry_filled b.entry 0) → IsBlock (blocks.setting_of (program_blocks P)) b
+  is_block : (b : Block) → TypedFits E (world_of (entry_mode b.entry)) (entry_filled b.entry 0) (entry_slots b.entry 0 no_slots) b.code → Small 48000 b.code 48000 48000 501 → Narrow (widest P) b.code (entry_filled b.entry 0) → IsBlock (blocks.setting_of (program_blocks P)) b
   is_block b f s r = record {
     fits = subst (λ F. TypedFits F (world_of (entry_mode b.entry)) (entry_filled b.entry 0) (entry_slots b.entry 0 no_slots) b.code) (setting_same P) f;
     limited = record { depth = omega (arith, s.depth); slots = omega (arith, s.path, filled_least b.entry) };
     inner = limited (widest P) 48000 (omega (arith, width_within P, d.size)) b.code (entry_filled b.entry 0) r s.inner;
   }
 
-  at_most : (c : Code) (n : ℕ) → n ≤ 48000 → Small 502 48000 c n n 501 → Small 502 48000 c 48000 48000 501
+  at_most : (c : Code) (n : ℕ) → n ≤ 48000 → Small 48000 c n n 501 → Small 48000 c 48000 48000 501
   at_most c n h s = record { blocks = omega (arith, s.blocks, h); path = omega (arith, s.path, h); depth = s.depth; inner = s.inner }
 
   function_is_block : (i : ℕ) (g : Function) → slice_get P.functions i ≡ Some g → IsFunctionBlock (blocks.setting_of (program_blocks P)) (function_block E g)

@@ -120,7 +120,7 @@ opening_typed P d _ = (tt, tt, tt)
 pub plays_fully : OpeningsPlayFully
 plays_fully P u d i = let t = opening_site (opening_threads (program_blocks P) u) in let s = meaning_opening.opening_site (meaning_opening.opening_threads P u) in
     plays-fully (source_machine P u) (blocks_machine (program_blocks P) u) (readback P u) (source_moments P u) (blocks_moments (program_blocks P) u) (paid P u) t s
-        (sites-are-sound P (λ w. []) u s d (λ q. is-real u i q) (opening_typed P d u)) (plays P u t s d i (opens P u d i))
+    (sites-are-sound P (λ w. []) u s d (λ q. is-real u i q) (opening_typed P d u)) (plays P u t s d i (opens P u d i))
 
 pub light : SentIsLight
 light P v t s r = r.1

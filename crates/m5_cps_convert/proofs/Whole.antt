@@ -31,8 +31,8 @@ use Rattle.m5_cps_convert.proofs.TwoForms.{pair_two, cons_two, store_two, operat
 use Rattle.m5_cps_convert.proofs.Calls.{call_done}
 use Rattle.m5_cps_convert.proofs.CallForms.{call_first, argument_done, call_evals}
 use Rattle.m5_cps_convert.proofs.Binding.{fn_evals, rec_evals, val_first, val_evals, put_first, put_evals, do_first, do_evals, leta_first, leta_evals, lets_first, lets_evals}
-use Rattle.m5_cps_convert.proofs.Choices.{if_first, if_evals, sum_first, sum_evals, list_first, list_evals}
-use Rattle.m5_cps_convert.proofs.Gets.{get_rest, get_evals}
+use Rattle.m5_cps_convert.proofs.MatchedChoices.{if_first, if_evals, sum_first, sum_evals, list_first, list_evals}
+use Rattle.m5_cps_convert.proofs.MatchedGets.{get_rest, get_evals}
 use Rattle.m5_cps_convert.proofs.Asked.{asks_meet}
 use Rattle.m5_cps_convert.proofs.Beginning.{spawn_evals, looks_up}
 use Rattle.m5_cps_convert.proofs.Entering.{Good, kont_entered, value_entered, goal_entered, start_entered, function_entered}

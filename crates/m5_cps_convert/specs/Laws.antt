@@ -8,6 +8,7 @@ use Rattle.m5_typing.specs.Program.{ProgramTerm, IsProgram, program_nodes}
 use Rattle.m5_meaning.specs.Site as meaning
 use Rattle.m5_meaning.specs.Opening as meaning_opening
 use Rattle.m5_site_sound.specs.SourceMachine.{source_machine}
+use Rattle.m5_cps.specs.Blocks.{Blocks}
 use Rattle.m5_cps.specs.Captured.{Site, Thread, value_units}
 use Rattle.m5_cps.specs.Values.{thread}
 use Rattle.m5_cps.specs.Units.{thread_units}
@@ -16,7 +17,7 @@ use Rattle.m5_cps.specs.Program as blocks
 use Rattle.m5_cps_convert.specs.Convert.{program_blocks}
 use Rattle.m5_cps_convert.specs.Threads.{ReadsItem, ReadsState}
 use Rattle.m5_cps_convert.specs.Counted.{block_count}
-use Rattle.m5_cps_convert.specs.Moments.{readback, source_moments, paid}
+use Rattle.m5_cps_convert.specs.Moments.{readback, readback_of, source_moments, paid, paid_of}
 
 -- at each world the blocks of a program go on as the program does
 abbrev pub BlocksMatch : Type 0
@@ -58,3 +59,14 @@ BlocksFit = (P : ProgramTerm) → IsProgram P → blocks.IsProgram (program_bloc
 -- at most three blocks a node, and one for main
 abbrev pub BlocksAreFew : Type 0
 BlocksAreFew = (P : ProgramTerm) → block_count (program_blocks P) ≤ 3 * program_nodes P + 1
+
+-- the blocks B go on as the program: from its opening each site of them plays along with the program's, whatever lawful answers
+-- that gets, is never wrong, and each of its moments is paid for
+abbrev pub GoesOnAs : ProgramTerm → Blocks → Type 0
+GoesOnAs P B =
+    (u : World) → IsSiteWorld u →
+    PlaysAlwaysFully (source_machine P u) (blocks_machine B u) (readback_of P B u) (source_moments P u) (blocks_moments B u) (paid_of P B u)
+    (opening_site (opening_threads B u)) (meaning_opening.opening_site (meaning_opening.opening_threads P u))
+
+abbrev pub IsFewFor : ProgramTerm → Blocks → Type 0
+IsFewFor P B = block_count B ≤ 3 * program_nodes P + 1

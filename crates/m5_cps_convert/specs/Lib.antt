@@ -12,3 +12,4 @@ pub mod Threads
 pub mod Counted
 pub mod Moments
 pub mod Laws
+pub mod code

@@ -8,6 +8,7 @@ use Rattle.m5_typing.specs.Program.{ProgramTerm}
 use Rattle.m5_meaning.specs.Site as meaning
 use Rattle.m5_meaning.specs.Step as meaning_step
 use Rattle.m5_site_sound.specs.SourceMachine.{source_machine}
+use Rattle.m5_cps.specs.Blocks.{Blocks}
 use Rattle.m5_cps.specs.Captured.{Site}
 use Rattle.m5_cps.specs.Deeds.{Point}
 use Rattle.m5_cps.specs.Running.{ran}
@@ -15,18 +16,21 @@ use Rattle.m5_cps.specs.Machine.{blocks_machine, blocks_moments, point_of}
 use Rattle.m5_cps_convert.specs.Convert.{program_blocks}
 use Rattle.m5_cps_convert.specs.Threads.{ReadsItem, ReadsState}
 
--- at the world u: states, asks by what their items are read back to where they go, and answers by what theirs are here
+-- of blocks B at the world u: states, asks by what their items are read back to where they go, and answers by what theirs are here
+abbrev pub readback_of : (P : ProgramTerm) (B : Blocks) (u : World) → Reading (source_machine P u) (blocks_machine B u)
+readback_of P B u = record { state = ReadsState P u; ask = AskReads (ReadsItem P); answer = AnswerReads (ReadsItem P u) }
+
 abbrev pub readback : (P : ProgramTerm) (u : World) → Reading (source_machine P u) (blocks_machine (program_blocks P) u)
-readback P u = record { state = ReadsState P u; ask = AskReads (ReadsItem P); answer = AnswerReads (ReadsItem P u) }
+readback P u = readback_of P (program_blocks P) u
 
 -- what stands where a site is about to enter a block
 abbrev pub entry_point : Site → Point
 entry_point t = record { units = t.units; threads = length t.threads; cells = length t.cells; handlers = length t.handlers }
 
 -- what stands at a moment: at an entry, or with the object that is about to be made
-abbrev pub moment_point : (P : ProgramTerm) (u : World) (t : Site) → blocks_moments (program_blocks P) u t → Point
-moment_point P u t (inl entry) = entry_point t
-moment_point P u t (inr object) = point_of (ran (program_blocks P) u t) object
+abbrev pub moment_point : (B : Blocks) (u : World) (t : Site) → blocks_moments B u t → Point
+moment_point B u t (inl entry) = entry_point t
+moment_point B u t (inr object) = point_of (ran B u t) object
 
 -- each state of the source is a moment
 abbrev pub source_moments : (P : ProgramTerm) (u : World) → Moments (source_machine P u)
@@ -41,5 +45,8 @@ pub record IsPaid (P : ProgramTerm) (u : World) (entered : ℕ) (p : Point) (s :
   pub cells : p.cells ≡ length s.cells
   pub handlers : p.handlers ≡ length s.handlers
 
+abbrev pub paid_of : (P : ProgramTerm) (B : Blocks) (u : World) → Meeting (source_machine P u) (blocks_machine B u) (source_moments P u) (blocks_moments B u)
+paid_of P B u = λ t m s x. IsPaid P u t.entered (moment_point B u t m) s
+
 abbrev pub paid : (P : ProgramTerm) (u : World) → Meeting (source_machine P u) (blocks_machine (program_blocks P) u) (source_moments P u) (blocks_moments (program_blocks P) u)
-paid P u = λ t m s x. IsPaid P u t.entered (moment_point P u t m) s
+paid P u = paid_of P (program_blocks P) u
