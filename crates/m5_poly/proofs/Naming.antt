@@ -1,6 +1,6 @@
 -- Tests of items, said of what the items hold.
-use Rattle.std.proofs.Common.{◌≡◌, ◌+◌, ◌<◌, ◌^◌, eqb, get_or, arith, Bool, true, false, cond, not, ◌||◌, ltb, List, [], ◌∷◌, ◌++◌, length, if◌then◌else◌, map, Option, Some, None, ℕ, refl, ap, sym, ◌∙◌}
-use Rattle.std.specs.List.{list_any, prefix_len, position_or_len, position, position_from, AllPass}
+use Rattle.std.proofs.Common.{◌≡◌, ◌+◌, ◌<◌, ◌^◌, eqb, get_or, arith, Bool, true, false, cond, not, ◌||◌, List, [], ◌∷◌, ◌++◌, if◌then◌else◌, map, None, ℕ, refl, ap, ◌∙◌}
+use Rattle.std.specs.List.{list_any, prefix_len, position, position_from, AllPass}
 use Rattle.std.specs.Fmt.{decimal}
 use Rattle.std.specs.Str.{bytes_eq}
 use Rattle.std.specs.Str.Parse.{AllDigits}

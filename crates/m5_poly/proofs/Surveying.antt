@@ -1,5 +1,5 @@
 -- What one section more does to a survey.
-use Rattle.std.proofs.Common.{◌≡◌, ◌≢◌, ℕ, ◌+◌, ◌<◌, ◌≤◌, Bool, true, false, not, cond, suc, List, [], ◌∷◌, ◌++◌, map, length, take, drop, get_or, Option, Some, None, refl, ap, sym, ◌∙◌, arith, append_assoc}
+use Rattle.std.proofs.Common.{◌≡◌, ℕ, ◌+◌, ◌<◌, ◌≤◌, Bool, true, false, not, cond, suc, List, [], ◌∷◌, ◌++◌, length, take, drop, get_or, Option, Some, None, refl, ap, sym, ◌∙◌, arith, append_assoc}
 use Rattle.std.proofs.lemmas.List.{append-nil, map-append, drop_more, length-drop}
 use Rattle.std.proofs.lemmas.List.Folds.{length-prefix_len}
 use Rattle.std.specs.List.{list_any, prefix_len, take_while}
@@ -12,7 +12,7 @@ use Rattle.m5_poly.specs.declared.end.PolyEnd.{PolyEnd}
 use Rattle.m5_poly.specs.declared.end.PolyEnd.TheVariants as end
 use Rattle.m5_lex.specs.declared.token.Token.TheVariants.{Name}
 use Rattle.m5_poly.specs.Roles.{begins, is_word, is_sign}
-use Rattle.m5_poly.specs.Survey.{Generic, Sections, Heading, plain, bad, nameless, generic, heading, heading_after, listed, first_quoted, unless_quoted, surveyed, surveyed_by, in_front_of, before_name, names_of, sections_of, opened}
+use Rattle.m5_poly.specs.Survey.{Generic, Sections, plain, bad, nameless, generic, heading, heading_after, listed, first_quoted, surveyed, in_front_of, before_name, names_of, sections_of}
 use Rattle.m5_poly.specs.code.Surveying.{followed, going_on, following, StartsSection, Continues, Refuses}
 
 -- ---- lists of variables and headings

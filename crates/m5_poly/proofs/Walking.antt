@@ -1,5 +1,5 @@
 -- How a walk goes on.
-use Rattle.std.proofs.Common.{◌≡◌, ◌≢◌, ℕ, zero, suc, ◌+◌, ◌-◌, ◌<◌, ◌≤◌, ◌⊎◌, Bool, true, false, eqb, ◌&&◌, ◌||◌, List, [], ◌∷◌, ◌++◌, length, take, drop, get_or, Option, Some, None, slice_get, if◌then◌else◌, refl, ap, sym, subst, ◌∙◌, arith}
+use Rattle.std.proofs.Common.{◌≡◌, ℕ, zero, suc, ◌+◌, ◌<◌, Bool, true, false, eqb, ◌||◌, List, [], ◌∷◌, ◌++◌, length, take, drop, Option, Some, None, slice_get, if◌then◌else◌, refl, ap, sym, arith}
 use Rattle.std.proofs.lemmas.Bool.Decides.{nat_tests}
 use Rattle.std.specs.Prelude.{nat_lt}
 use Rattle.std.specs.List.{list_any}
@@ -10,7 +10,7 @@ use Rattle.m5_poly.specs.declared.end.PolyEnd.{PolyEnd}
 use Rattle.m5_poly.specs.declared.end.PolyEnd.TheVariants as end
 use Rattle.m5_poly.specs.Survey.{Generic}
 use Rattle.m5_poly.specs.Uses.{Scope, Bracketed, use_at, is_own, may_use, outside, key_of}
-use Rattle.m5_poly.specs.Walk.{State, Use, Walk, counted, all_counted, generic_used, used, walked, walked_at, made_by, making, asked, Made, head, inside_of, sections_walked}
+use Rattle.m5_poly.specs.Walk.{State, Use, Walk, counted, all_counted, walked, made_by, making, asked, Made, head, inside_of, sections_walked}
 use Rattle.m5_poly.specs.code.Walking.{walk_of, walked_here, used_here, made_here, instance_here}
 
 -- ---- counting

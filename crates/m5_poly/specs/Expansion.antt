@@ -7,7 +7,7 @@ use Rattle.m5_lex.specs.declared.place.Place.{Place}
 use Rattle.m5_lex.specs.declared.token.Token.TheVariants.{Name}
 use Rattle.m5_lex.specs.declared.tokens.Placed.{Placed}
 use Rattle.m5_lex.specs.Tokens.{Listing}
-use Rattle.m5_terms.specs.Outcome.{Outcome, found, fault, and_then}
+use Rattle.m5_terms.specs.Outcome.{Outcome, found, and_then}
 use Rattle.m5_poly.specs.declared.end.PolyEnd.{PolyEnd}
 use Rattle.m5_poly.specs.Survey.{Generic, Sections, sections_of, surveyed}
 use Rattle.m5_poly.specs.Uses.{Scope, Bracketed, outside, arguments_of, stands_for, use_at, key_of}

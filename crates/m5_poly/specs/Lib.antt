@@ -1,4 +1,6 @@
 pub mod Expansion
+pub mod Heading
+pub mod Plain
 pub mod Roles
 pub mod Survey
 pub mod Types

@@ -1,9 +1,9 @@
 -- What a token is where declarations, variables and types are read.
-use Rattle.std.specs.Prelude.{ℕ, ◌+◌, ◌-◌, ◌==◌, ◌||◌, ◌&&◌, Bool, true, false, nat_lt, is_some, List, [], ◌∷◌, Option, Some, None, if◌then◌else◌}
+use Rattle.std.specs.Prelude.{ℕ, ◌+◌, ◌-◌, ◌==◌, ◌||◌, ◌&&◌, Bool, false, nat_lt, is_some, List, [], ◌∷◌, Option, Some, None, if◌then◌else◌}
 use Rattle.std.specs.List.{position}
 use Rattle.std.specs.Str.{bytes_eq}
 use Rattle.m5_lex.specs.declared.token.Token.{Token}
-use Rattle.m5_lex.specs.declared.token.Token.TheVariants.{Name, Number, Literal, Word, Sign}
+use Rattle.m5_lex.specs.declared.token.Token.TheVariants.{Name, Word, Sign}
 use Rattle.m5_poly.specs.declared.role.Role.{Role}
 use Rattle.m5_poly.specs.declared.role.Role.TheVariants.{Open, Close, Prefix, Base, World, Addr, Suffix, At, Infix, Comma, Closing, Other}
 

@@ -1,4 +1,4 @@
--- What the data stand for that the code keeps while it surveys, walks and writes.
+-- What the code's data stand for.
 pub mod Made
 pub mod Surveying
 pub mod Views

@@ -1,7 +1,8 @@
 //! The expansion of a text.
 
-ghost use Rattle.std.specs.Prelude.{◌≡◌, IfOk, IfErr};
+ghost use Rattle.std.specs.Prelude.{◌≡◌, IfOk, IfErr, MatchResult};
 ghost use Rattle.m5_terms.specs.Outcome.{found, IsFault};
+ghost use Rattle.m5_poly.specs.Plain.{IsPlain};
 ghost use Rattle.m5_poly.specs.Expansion.{sections_written, expanded_from, expanded};
 
 use crate::end::PolyEnd;
@@ -52,13 +53,23 @@ fn expanded_tokens(alloc: Global, tokens: &[Item], ending: Place) -> Result<Toke
     }
 }
 
+/// The expansion of tokens.
+fn expanded_listing(alloc: Global, tokens: &Tokens) -> Result<Tokens, PolyEnd>
+    ensures found { IfOk result (λ out. expanded tokens.now ≡ found out) }
+    ensures fault { IfErr result (IsFault PolyEnd.Memory (expanded tokens.now)) }
+{
+    let items = items_of(alloc, tokens)?;
+    expanded_tokens(alloc, items.as_slice(), tokens.ending())
+}
+
 /// The tokens with each instance of a generic declaration written out at its place, each with its own place, or with that of
 /// the variable for which it stands; else the first refusal: of names and lists of variables over the whole text, and else of
 /// the walk over it.
 pub fn expand(alloc: Global, tokens: &Tokens) -> Result<Tokens, PolyEnd>
     ensures found { IfOk result (λ out. expanded tokens.now ≡ found out) }
     ensures fault { IfErr result (IsFault PolyEnd.Memory (expanded tokens.now)) }
+    // A text without generic declarations and uses stays as it is.
+    ensures law { IsPlain tokens.now.tokens → MatchResult result (λ out. out ≡ tokens.now) (λ e. e ≡ PolyEnd.Memory) }
 {
-    let items = items_of(alloc, tokens)?;
-    expanded_tokens(alloc, items.as_slice(), tokens.ending())
+    expanded_listing(alloc, tokens)
 }

@@ -1,4 +1,4 @@
-use Rattle.std.proofs.Common.{sym, ◌∙◌, ap, arith, ◌++◌, [], ◌∷◌}
+use Rattle.std.proofs.Common.{sym, arith}
 use Rattle.m5_poly.proofs.Making.{item_next}
 use Rattle.m5_poly.proofs.item.items_of.Goals as goal
 

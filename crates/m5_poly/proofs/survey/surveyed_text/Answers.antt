@@ -1,4 +1,4 @@
-use Rattle.std.proofs.Common.{◌≡◌, map, sym, ◌∙◌, ap}
+use Rattle.std.proofs.Common.{map, sym, ◌∙◌, ap}
 use Rattle.std.specs.Option.{option_map}
 use Rattle.m5_poly.specs.code.Views.{generic_of}
 use Rattle.m5_poly.specs.code.Surveying.{survey_of, following}

@@ -1,4 +1,4 @@
-use Rattle.std.proofs.Common.{◌≡◌, sym, ◌∙◌, ap, arith}
+use Rattle.std.proofs.Common.{sym, ◌∙◌, ap, arith}
 use Rattle.m5_poly.specs.Roles.{is_sign}
 use Rattle.m5_poly.specs.code.Views.{scope_of}
 use Rattle.m5_poly.proofs.Arguments.{comma_next, code_next}

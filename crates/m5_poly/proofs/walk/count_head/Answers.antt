@@ -1,8 +1,8 @@
-use Rattle.std.proofs.Common.{◌≡◌, ◌++◌, [], ◌∷◌, sym, subst, ◌∙◌, ap}
+use Rattle.std.proofs.Common.{◌≡◌, sym, subst, ◌∙◌}
 use Rattle.std.specs.Prelude.{IfErr, OnOk}
 use Rattle.m5_terms.specs.Outcome.{Outcome, found, fault}
 use Rattle.m5_poly.specs.declared.end.PolyEnd.{PolyEnd}
-use Rattle.m5_poly.specs.Uses.{Scope, outside}
+use Rattle.m5_poly.specs.Uses.{outside}
 use Rattle.m5_poly.specs.Walk.{State, all_counted, counted, head}
 use Rattle.m5_poly.specs.code.Views.{scope_of, generic_of}
 use Rattle.m5_poly.specs.code.Walking.{state_of}

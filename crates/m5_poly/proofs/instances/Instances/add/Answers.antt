@@ -1,4 +1,3 @@
-use Rattle.std.proofs.Common.{List, ◌≡◌}
 use Rattle.m5_poly.proofs.Making.{put_behind}
 use Rattle.m5_poly.proofs.instances.Instances.add.Goals as goal
 

@@ -1,4 +1,4 @@
-use Rattle.std.proofs.Common.{sym, ◌∙◌, arith, ◌≡◌, true, false}
+use Rattle.std.proofs.Common.{sym, ◌∙◌, arith, true, false}
 use Rattle.m5_poly.proofs.Making.{count_next}
 use Rattle.m5_poly.proofs.instances.Instances.number_of.Goals as goal
 use Rattle.m5_poly.proofs.instances.Instances.number_of.Goals.{then-is_of, else-is_of}
