@@ -71,8 +71,8 @@ module _ (P : Program) (u : World) (site : IsSiteWorld u) where
     arm_meets nr = in_its_block (nat_lt Δ.arms 500) nr
 
   module _ (b c : Expression) (eb : Evals P u b) (ec : Evals P u c) (T A : TypeExpression) (a1 : Expression) (l m : ℕ) (ρ : ℕ → Value) (Γ : Scope) (γ : Values) (t : Site) (s : meaning.Site) (fs : List Frame) (x w : World) (xe : x ≡ u) (pb : Proper b) (pc : Proper c) (f : Fits (In P ρ) m Γ γ) (hk : Has (In P ρ) m l (SKont u fs)) (h : Tied P u 1 (closure_room P u site) t s) where
-    abbrev W1 : World
-    W1 = world_of Γ.mode
+    abbrev block_world : World
+    block_world = world_of Γ.mode
 
     abbrev Wrong : List Frame → Expression → Ran Closure → Type 0
     Wrong gs v r = Meets P u r (src s gs (Returned w v))
@@ -98,10 +98,10 @@ module _ (P : Program) (u : World) (site : IsSiteWorld u) where
       Sum1 = frame.Part x (ternary (ternary_form.CaseSum y z) a1 (close (hide (y ∷ []) γ) b) (close (hide (z ∷ []) γ) c)) 0 ∷ fs
 
       abbrev left_scope : Scope
-      left_scope = bind y (local W1 (first_of A)) m Γ
+      left_scope = bind y (local block_world (first_of A)) m Γ
 
       abbrev right_scope : Scope
-      right_scope = bind z (local W1 (second_of A)) m Γ
+      right_scope = bind z (local block_world (second_of A)) m Γ
 
       abbrev left_code : Code
       left_code = arm_code T (cps (setting P) b) left_scope (suc m) l
@@ -111,9 +111,9 @@ module _ (P : Program) (u : World) (site : IsSiteWorld u) where
 
       pub sum_head : (2 ≤ W P) × Narrow (W P) left_code (suc m) × Narrow (W P) right_code (suc m) → {d : Value} {v : Expression} → Head P d v → Meets P u (tested u if_left d (λ parts. run u left_code (filled_by parts m) (put_all m parts ρ) t) (λ parts. run u right_code (filled_by parts m) (put_all m parts ρ) t)) (src s Sum1 (Returned w v))
       sum_head nr (lefts X d v r) = let g : Grows (In P ρ) m (In P (put m d ρ)) (suc m) = put_grows P ρ m d in
-          arm_meets T b eb left_scope (put y (Some v) γ) (suc m) l (put m d ρ) t s fs x Sum1 (Returned w (unary (unary_form.Inl X) v)) xe pb (fits_put (In P (put m d ρ)) (suc m) Γ γ y m (local W1 (first_of A)) v (fits_on Γ γ g f) (put_has P ρ m d (SVal v) r)) (has_on l (SKont u fs) g hk) h nr.0 (ap (λ o. goes (src (ticked P 0 s) fs (Eval x o))) (body_put b y v γ (fits_fixed P ρ m Γ γ f))) nr.1
+          arm_meets T b eb left_scope (put y (Some v) γ) (suc m) l (put m d ρ) t s fs x Sum1 (Returned w (unary (unary_form.Inl X) v)) xe pb (fits_put (In P (put m d ρ)) (suc m) Γ γ y m (local block_world (first_of A)) v (fits_on Γ γ g f) (put_has P ρ m d (SVal v) r)) (has_on l (SKont u fs) g hk) h nr.0 (ap (λ o. goes (src (ticked P 0 s) fs (Eval x o))) (body_put b y v γ (fits_fixed P ρ m Γ γ f))) nr.1
       sum_head nr (rights X d v r) = let g : Grows (In P ρ) m (In P (put m d ρ)) (suc m) = put_grows P ρ m d in
-          arm_meets T c ec right_scope (put z (Some v) γ) (suc m) l (put m d ρ) t s fs x Sum1 (Returned w (unary (unary_form.Inr X) v)) xe pc (fits_put (In P (put m d ρ)) (suc m) Γ γ z m (local W1 (second_of A)) v (fits_on Γ γ g f) (put_has P ρ m d (SVal v) r)) (has_on l (SKont u fs) g hk) h nr.0 (ap (λ o. goes (src (ticked P 0 s) fs (Eval x o))) (body_put c z v γ (fits_fixed P ρ m Γ γ f))) nr.2
+          arm_meets T c ec right_scope (put z (Some v) γ) (suc m) l (put m d ρ) t s fs x Sum1 (Returned w (unary (unary_form.Inr X) v)) xe pc (fits_put (In P (put m d ρ)) (suc m) Γ γ z m (local block_world (second_of A)) v (fits_on Γ γ g f) (put_has P ρ m d (SVal v) r)) (has_on l (SKont u fs) g hk) h nr.0 (ap (λ o. goes (src (ticked P 0 s) fs (Eval x o))) (body_put c z v γ (fits_fixed P ρ m Γ γ f))) nr.2
       sum_head nr _ = record { steps = 0; at = src s Sum1 (Returned w _); comes = refl; stuck = refl }
 
       -- of a list, whose tail is the inner binder of its second arm
@@ -121,7 +121,7 @@ module _ (P : Program) (u : World) (site : IsSiteWorld u) where
       List1 = frame.Part x (ternary (ternary_form.CaseList y z) a1 (close γ b) (close (hide (z ∷ y ∷ []) γ) c)) 0 ∷ fs
 
       abbrev cons_scope : Scope
-      cons_scope = bind z (local W1 A) (suc m) (bind y (local W1 (content_of A)) m Γ)
+      cons_scope = bind z (local block_world A) (suc m) (bind y (local block_world (content_of A)) m Γ)
 
       abbrev cons_code : Code
       cons_code = arm_code T (cps (setting P) c) cons_scope (suc (suc m)) l
@@ -133,8 +133,8 @@ module _ (P : Program) (u : World) (site : IsSiteWorld u) where
           let ρ2 : ℕ → Value = put (suc m) d2 ρ1 in
           let g1 : Grows (In P ρ) m (In P ρ1) (suc m) = put_grows P ρ m d1 in
           let g2 : Grows (In P ρ1) (suc m) (In P ρ2) (suc (suc m)) = put_grows P ρ1 (suc m) d2 in
-          let fits1 : Fits (In P ρ2) (suc (suc m)) (bind y (local W1 (content_of A)) m Γ) (put y (Some v1) γ) = fits_put (In P ρ2) (suc (suc m)) Γ γ y m (local W1 (content_of A)) v1 (fits_on Γ γ (grows_on g1 g2) f) (has_on m (SVal v1) g2 (put_has P ρ m d1 (SVal v1) r1)) in
-          let fits2 : Fits (In P ρ2) (suc (suc m)) cons_scope (put z (Some v2) (put y (Some v1) γ)) = fits_put (In P ρ2) (suc (suc m)) (bind y (local W1 (content_of A)) m Γ) (put y (Some v1) γ) z (suc m) (local W1 A) v2 fits1 (put_has P ρ1 (suc m) d2 (SVal v2) r2) in
+          let fits1 : Fits (In P ρ2) (suc (suc m)) (bind y (local block_world (content_of A)) m Γ) (put y (Some v1) γ) = fits_put (In P ρ2) (suc (suc m)) Γ γ y m (local block_world (content_of A)) v1 (fits_on Γ γ (grows_on g1 g2) f) (has_on m (SVal v1) g2 (put_has P ρ m d1 (SVal v1) r1)) in
+          let fits2 : Fits (In P ρ2) (suc (suc m)) cons_scope (put z (Some v2) (put y (Some v1) γ)) = fits_put (In P ρ2) (suc (suc m)) (bind y (local block_world (content_of A)) m Γ) (put y (Some v1) γ) z (suc m) (local block_world A) v2 fits1 (put_has P ρ1 (suc m) d2 (SVal v2) r2) in
           arm_meets T c ec cons_scope (put z (Some v2) (put y (Some v1) γ)) (suc (suc m)) l ρ2 t s fs x List1 (Returned w (binary binary_form.Cons v1 v2)) xe pc fits2 (has_on l (SKont u fs) (grows_on g1 g2) hk) h nr.0 (ap (λ o. goes (src (ticked P 0 s) fs (Eval x o))) (cons_put P c y z d1 d2 v1 v2 γ r1 r2 (fits_fixed P ρ m Γ γ f))) nr.2
       list_head nr _ = record { steps = 0; at = src s List1 (Returned w _); comes = refl; stuck = refl }
 
