@@ -1,2 +1,4 @@
 pub mod Page
 pub mod Spelling
+pub mod Fault
+pub mod code

@@ -1,5 +1,5 @@
 -- Which blocks are a browser's code.
-use Rattle.std.specs.Prelude.{pos, ◌≤◌, length, Bool, true, false, IsTrue, nat_le, int_le, ◌==◌, ◌||◌}
+use Rattle.std.specs.Prelude.{pos, ◌≤◌, length, Bool, true, false, IsTrue, nat_le, int_le, ◌==◌, ◌||◌, ◌≡◌}
 use Rattle.std.specs.List.{list_all}
 use Rattle.m5_terms.specs.Text.{text_byte}
 use Rattle.m5_machine.specs.declared.step.Instruction.{Instruction}
@@ -7,6 +7,7 @@ use Rattle.m5_machine.specs.declared.step.Instruction.TheVariants as i
 use Rattle.m5_machine.specs.declared.step.Step.{Step}
 use Rattle.m5_machine.specs.declared.step.Step.TheVariants as steps
 use Rattle.m5_machine.specs.Blocks.{Flat, IsFlat}
+use Rattle.m5_machine.specs.Numbers.{IsStep}
 
 -- a browser's instructions: no negative literal, a text as a program's may be, a place up to
 -- 65,534, and one form of equality, `Same`
@@ -47,3 +48,8 @@ pub record IsPageCode (code : Flat) : Type 0 where
   pub flat : IsFlat code
   pub steps : IsTrue (list_all page_step code.steps)
   pub labels : length code.starts ≤ 65536
+
+-- a browser's step, whose numbers are ones that its type holds
+pub record IsPageStep (s : Step) : Type 0 where
+  pub page : page_step s ≡ true
+  pub numbers : IsStep s

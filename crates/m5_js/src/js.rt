@@ -41,7 +41,7 @@ fn is_page_instruction(instruction: &Instruction) -> bool
 }
 
 /// Whether a browser has the step.
-fn is_page_step(step: &Step) -> bool
+pub(crate) fn is_page_step(step: &Step) -> bool
     ensures { result ≡ page_step step.now }
 {
     match step {
@@ -73,6 +73,14 @@ impl Js {
             return None;
         }
         Some(Js { blocks })
+    }
+
+    /// The code of blocks that are a browser's.
+    pub(crate) fn made(blocks: Blocks) -> Js
+        requires { IsPageCode blocks }
+        ensures { result ≡ blocks }
+    {
+        Js { blocks }
     }
 
     /// The blocks of the code.

@@ -1,7 +1,7 @@
-//! Codes printed.
+//! Codes printed and read, and texts that are no code's.
 
 use crate::js::Js;
-use crate::print;
+use crate::{JsEnd, print, read};
 use m5_machine::blocks::NO_BLOCK;
 use m5_machine::link::link;
 use m5_machine::listed::{Operands, TextBytes};
@@ -46,5 +46,117 @@ fn prints_values_and_a_choice(rt: HostRuntime) -> Result<(), Fail> {
     let line =
         "const L1 = (e, a) => { const v0 = \"a\\\"\\n\"; const v1 = 7n; const v2 = BigInt.asIntN(64, v1 / v1); const v3 = [e, v0]; if (a) { const v4 = v3[1]; return ask(\"show\", v0, e); } else { const v4 = v1 === v2; return send(\"panel\", e, v4); } };\n";
     assert_eq!(rt; text.bytes(), line.as_bytes());
+    Ok(())
+}
+
+/// The first line that is none of a code's, if the text is no code's.
+fn bad_line(alloc: Global, text: &[u8]) -> Result<Option<u32>, Fail> {
+    if text.len() >= 0xffff_ffff {
+        return Err("the text is long".into());
+    }
+    match read(alloc, text) {
+        Ok(_) => Ok(None),
+        Err(JsEnd::Bad(place)) => Ok(Some(place.line)),
+        Err(JsEnd::Memory) => Err("memory ran out".into()),
+    }
+}
+
+#[test]
+fn reads_what_is_printed(rt: HostRuntime) -> Result<(), Fail> {
+    let alloc = rt.alloc();
+    let line =
+        b"const L1 = (e, a) => { const v0 = \"\\n\"; if (a) { return done(); } else { return go(e, v0); } };\n";
+    let js = read(alloc, line)?;
+    assert_eq!(rt; print(alloc, &js)?.bytes(), line.as_slice());
+    Ok(())
+}
+
+#[test]
+fn refuses_what_is_no_code(rt: HostRuntime) -> Result<(), Fail> {
+    let alloc = rt.alloc();
+    let table: [(&str, Option<u32>); 16] = [
+        ("", None),
+        ("const L1 = (e, a) => { return done(); };\n", None),
+        ("const L1 = (e, a) => {  return done(); };\n", Some(1)),
+        ("const L1 = (e, a) => { return done(); };", Some(1)),
+        ("const L01 = (e, a) => { return done(); };\n", Some(1)),
+        ("const L65536 = (e, a) => { return done(); };\n", Some(1)),
+        (
+            "const L1 = (e, a) => { const v1 = null; return done(); };\n",
+            Some(1),
+        ),
+        (
+            "const L1 = (e, a) => { const v0 = -1n; return done(); };\n",
+            Some(1),
+        ),
+        (
+            "const L1 = (e, a) => { const v0 = 01n; return done(); };\n",
+            Some(1),
+        ),
+        (
+            "const L1 = (e, a) => { const v0 = []; return done(); };\n",
+            Some(1),
+        ),
+        (
+            "const L1 = (e, a) => { const v0 = e[65535]; return done(); };\n",
+            Some(1),
+        ),
+        (
+            "const L1 = (e, a) => { const v0 = \"\\q\"; return done(); };\n",
+            Some(1),
+        ),
+        (
+            "const L1 = (e, a) => { return ask(\"read\", e, a); };\n",
+            Some(1),
+        ),
+        (
+            "const L1 = (e, a) => { return done(); };\nconst L1 = (e, a) => { return done(); };\n",
+            Some(2),
+        ),
+        (
+            "const L1 = (e, a) => { return done(); };\nconst L0 = (e, a) => { return done(); };\n",
+            Some(2),
+        ),
+        ("const L1 = (e, a) => { return done(); };\n\n", Some(2)),
+    ];
+    for (text, line) in table.iter() {
+        assert_eq!(rt; bad_line(alloc, text.as_bytes())?, *line, "{text}");
+    }
+    Ok(())
+}
+
+/// A line whose endings nest this deep.
+fn nested(alloc: Global, depth: usize) -> Result<Vec<u8>, Fail> {
+    let mut text = Vec::from_slice(alloc, b"const L0 = (e, a) => { ")?;
+    for _ in 1..depth {
+        text.extend_from_slice(b"if (a) { return done(); } else { ")?;
+    }
+    text.extend_from_slice(b"return done(); ")?;
+    for _ in 1..depth {
+        text.extend_from_slice(b"} ")?;
+    }
+    text.extend_from_slice(b"};\n")?;
+    Ok(text)
+}
+
+#[test]
+fn endings_nest_at_most_a_thousand_deep(rt: HostRuntime) -> Result<(), Fail> {
+    let alloc = rt.alloc();
+    assert_eq!(rt; bad_line(alloc, &nested(alloc, 1000)?)?, None);
+    assert_eq!(rt; bad_line(alloc, &nested(alloc, 1001)?)?, Some(1));
+    Ok(())
+}
+
+#[test]
+fn no_part_of_a_line_is_one(rt: HostRuntime) -> Result<(), Fail> {
+    let alloc = rt.alloc();
+    let line = b"const L1 = (e, a) => { const v0 = 7n; return send(\"home\", e, v0); };\n";
+    for count in 1..line.len() {
+        assert_eq!(rt;
+            bad_line(alloc, &line[..count])?,
+            Some(1),
+            "the first {count} bytes"
+        );
+    }
     Ok(())
 }
