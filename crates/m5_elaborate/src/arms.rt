@@ -57,12 +57,12 @@ pub(crate) fn binding_of_part(
 {
     match form {
         UnaryView::Fn(number, ty) => {
-            let ty = ty.copy(alloc)?;
+            let ty = ty.copy()?;
             Ok(Binding::One(*number as usize, Bound::Local(world, ty)))
         }
         UnaryView::Rec(number, parameter, ty, codomain) => {
-            let domain = ty.copy(alloc)?;
-            let whole = function_of(alloc, ty.copy(alloc)?, codomain.copy(alloc)?)?;
+            let domain = ty.copy()?;
+            let whole = function_of(alloc, ty.copy()?, codomain.copy()?)?;
             Ok(Binding::Two(
                 *parameter as usize,
                 Bound::Local(world, domain),
@@ -88,7 +88,7 @@ fn in_put(
     }
     Ok(Inside {
         world,
-        binding: Binding::One(number as usize, Bound::Valid(first.copy(alloc)?)),
+        binding: Binding::One(number as usize, Bound::Valid(first.copy()?)),
     })
 }
 
@@ -108,7 +108,7 @@ fn in_leta(
             }
             Ok(Inside {
                 world,
-                binding: Binding::One(number as usize, Bound::Local(*at, ty.get().copy(alloc)?)),
+                binding: Binding::One(number as usize, Bound::Local(*at, ty.get().copy()?)),
             })
         }
         _ => Err(TypeEnd::Refused(Kind::NotAt, place)),
@@ -127,7 +127,7 @@ fn in_lets(
     match &first.shape {
         Shape::Sham(ty) => Ok(Inside {
             world,
-            binding: Binding::One(number as usize, Bound::Valid(ty.get().copy(alloc)?)),
+            binding: Binding::One(number as usize, Bound::Valid(ty.get().copy()?)),
         }),
         _ => Err(TypeEnd::Refused(Kind::NotSham, place)),
     }
@@ -166,7 +166,7 @@ pub(crate) fn in_second_part(
     match form {
         BinaryForm::Val(number) => Ok(Inside {
             world,
-            binding: Binding::One(number as usize, Bound::Local(world, first.copy(alloc)?)),
+            binding: Binding::One(number as usize, Bound::Local(world, first.copy()?)),
         }),
         BinaryForm::Put(number) => in_put(alloc, number, place, world, first),
         BinaryForm::Leta(number) => in_leta(alloc, number, place, world, first),
@@ -196,10 +196,10 @@ fn in_sum(
 {
     match &first.shape {
         Shape::Sum(a, b) => {
-            let second = Binding::One(left as usize, Bound::Local(world, a.get().copy(alloc)?));
+            let second = Binding::One(left as usize, Bound::Local(world, a.get().copy()?));
             Ok(Arms {
                 second,
-                third: Binding::One(right as usize, Bound::Local(world, b.get().copy(alloc)?)),
+                third: Binding::One(right as usize, Bound::Local(world, b.get().copy()?)),
             })
         }
         _ => Err(TypeEnd::Refused(Kind::NotSum, place)),
@@ -218,8 +218,8 @@ fn in_list(
 {
     match &first.shape {
         Shape::List(a) => {
-            let element = Bound::Local(world, a.get().copy(alloc)?);
-            let rest = Bound::Local(world, first.copy(alloc)?);
+            let element = Bound::Local(world, a.get().copy()?);
+            let rest = Bound::Local(world, first.copy()?);
             Ok(Arms {
                 second: Binding::Nothing,
                 third: Binding::Two(tail as usize, rest, head as usize, element),

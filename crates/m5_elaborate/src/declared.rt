@@ -29,8 +29,8 @@ pub(crate) fn declared(
             if !everywhere && !is_same_world(function.world, world) {
                 return Err(TypeEnd::Refused(Kind::WrongWorld, place));
             }
-            let ty = function.ty.copy(alloc)?;
-            Ok(function_of(alloc, ty, function.result.copy(alloc)?)?)
+            let ty = function.ty.copy()?;
+            Ok(function_of(alloc, ty, function.result.copy()?)?)
         }
     }
 }

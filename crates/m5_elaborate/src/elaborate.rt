@@ -38,10 +38,10 @@ fn check_function(
     ensures ends { Ends result (function_checked known.now function.now) }
     ensures names { OnOk result (entries names.new ≡ entries names.old) }
 {
-    let ty = function.ty.copy(alloc)?;
-    let whole = function_of(alloc, ty, function.result.copy(alloc)?)?;
+    let ty = function.ty.copy()?;
+    let whole = function_of(alloc, ty, function.result.copy()?)?;
     let whole = limited(function.place, whole)?;
-    let ty = function.ty.copy(alloc)?;
+    let ty = function.ty.copy()?;
     let binding = Binding::One(
         function.parameter as usize,
         Bound::Local(function.world, ty),

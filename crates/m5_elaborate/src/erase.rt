@@ -22,7 +22,7 @@ pub(crate) fn erase(alloc: Global, node: &RawNode) -> Result<Node, AllocError>
     match node.open() {
         Opened::Leaf(form) => Ok(Node::leaf(form.copy(alloc)?)),
         Opened::Unary(form, first) => {
-            let copied = form.copy(alloc)?;
+            let copied = form.copy()?;
             Ok(Node::unary(copied, kept(alloc, first)?))
         }
         Opened::Binary(BinaryForm::Pair, first, second) => erase_pairs(alloc, first, second),
@@ -77,8 +77,8 @@ fn nest(alloc: Global, mut parts: Vec<NodeBox>, last: Node) -> Result<Node, Allo
 fn function(alloc: Global, function: &RawFunction) -> Result<Function, AllocError>
     ensures { IfOk result (λ g. g ≡ erased_function function.now) }
 {
-    let ty = function.ty.copy(alloc)?;
-    let codomain = function.result.copy(alloc)?;
+    let ty = function.ty.copy()?;
+    let codomain = function.result.copy()?;
     let body = erase(alloc, &function.body)?;
     Ok(Function {
         world: function.world,

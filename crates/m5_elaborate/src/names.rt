@@ -81,7 +81,7 @@ pub(crate) fn local(
             },
         ) => {
             if *own == depth && is_same_world(*at, world) {
-                Ok(ty.copy(alloc)?)
+                Ok(ty.copy()?)
             } else {
                 Err(TypeEnd::Refused(Kind::WrongWorld, place))
             }
@@ -100,7 +100,7 @@ pub(crate) fn valid(alloc: Global, names: &Names, place: Place, number: u32) -> 
                 depth: _,
                 bound: Bound::Valid(ty),
             },
-        ) => Ok(ty.copy(alloc)?),
+        ) => Ok(ty.copy()?),
         _ => Err(TypeEnd::Refused(Kind::WrongWorld, place)),
     }
 }

@@ -33,7 +33,7 @@ pub(crate) fn first_of_pair(place: Place, ty: Ty) -> Result<Ty, TypeEnd>
     ensures { Ends result (first_of place ty) }
 {
     match ty.into_shape() {
-        Shape::Prod(a, _) => Ok(a.into_inner()),
+        Shape::Prod(a, _) => Ok(a.into_inner()?),
         _ => Err(TypeEnd::Refused(Kind::NotPair, place)),
     }
 }
@@ -42,7 +42,7 @@ pub(crate) fn second_of_pair(place: Place, ty: Ty) -> Result<Ty, TypeEnd>
     ensures { Ends result (second_of place ty) }
 {
     match ty.into_shape() {
-        Shape::Prod(_, b) => Ok(b.into_inner()),
+        Shape::Prod(_, b) => Ok(b.into_inner()?),
         _ => Err(TypeEnd::Refused(Kind::NotPair, place)),
     }
 }
@@ -51,7 +51,7 @@ pub(crate) fn content_of_cell(place: Place, ty: Ty) -> Result<Ty, TypeEnd>
     ensures { Ends result (content_of place ty) }
 {
     match ty.into_shape() {
-        Shape::Cell(a) => Ok(a.into_inner()),
+        Shape::Cell(a) => Ok(a.into_inner()?),
         _ => Err(TypeEnd::Refused(Kind::NotCell, place)),
     }
 }
@@ -61,7 +61,7 @@ pub(crate) fn call_type(place: Place, function: Ty, argument: &Ty) -> Result<Ty,
     ensures { Ends result (applied place function argument.now) }
 {
     match function.into_shape() {
-        Shape::Fun(a, b) => if_same_type(is_same(a.get(), argument), place, b.into_inner()),
+        Shape::Fun(a, b) => if_same_type(is_same(a.get(), argument), place, b.into_inner()?),
         _ => Err(TypeEnd::Refused(Kind::NotFunction, place)),
     }
 }
@@ -94,7 +94,7 @@ pub(crate) fn left_type(alloc: Global, place: Place, written: &Ty, part: &Ty) ->
     ensures { Ends result (injected_left place written.now part.now) }
 {
     match &written.shape {
-        Shape::Sum(a, _) => if_same_type(is_same(part, a.get()), place, written.copy(alloc)?),
+        Shape::Sum(a, _) => if_same_type(is_same(part, a.get()), place, written.copy()?),
         _ => Err(TypeEnd::Refused(Kind::NotSum, place)),
     }
 }
@@ -109,7 +109,7 @@ pub(crate) fn right_type(
     ensures { Ends result (injected_right place written.now part.now) }
 {
     match &written.shape {
-        Shape::Sum(_, b) => if_same_type(is_same(part, b.get()), place, written.copy(alloc)?),
+        Shape::Sum(_, b) => if_same_type(is_same(part, b.get()), place, written.copy()?),
         _ => Err(TypeEnd::Refused(Kind::NotSum, place)),
     }
 }

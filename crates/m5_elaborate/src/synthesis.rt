@@ -119,7 +119,7 @@ pub(crate) fn of_leaf(
         LeafView::Str(_) => Ok(Ty::new(Shape::Str)),
         LeafView::Addr(address) => of_address(place, address),
         LeafView::Here => of_address(place, world),
-        LeafView::Nil(ty) => Ok(list_of(alloc, ty.copy(alloc)?)?),
+        LeafView::Nil(ty) => Ok(list_of(alloc, ty.copy()?)?),
         LeafView::CellAt(_, _) => Err(TypeEnd::Refused(Kind::WrongWorld, place)),
     }
 }
@@ -143,7 +143,7 @@ fn of_rec(alloc: Global, place: Place, ty: &Ty, codomain: &Ty, part: Ty) -> Resu
     ensures { Ends result (if_same (same_type part codomain.now) place (function ty.now codomain.now)) }
 {
     let same = is_same(&part, codomain);
-    let whole = function_of(alloc, ty.copy(alloc)?, part)?;
+    let whole = function_of(alloc, ty.copy()?, part)?;
     if_same_type(same, place, whole)
 }
 
@@ -186,7 +186,7 @@ pub(crate) fn of_unary(
     ensures { Ends result (unary_type (viewed_unary form.entry) place world (is_value_form (erased first.now)) part) }
 {
     match form {
-        UnaryView::Fn(_, ty) => Ok(function_of(alloc, ty.copy(alloc)?, part)?),
+        UnaryView::Fn(_, ty) => Ok(function_of(alloc, ty.copy()?, part)?),
         UnaryView::Rec(_, _, ty, codomain) => of_rec(alloc, place, ty, codomain, part),
         UnaryView::Fst => first_of_pair(place, part),
         UnaryView::Snd => second_of_pair(place, part),

@@ -21,7 +21,8 @@ use Rattle.m5_typing.specs.declared.functions.Function.{Function}
 use Rattle.m5_meaning.specs.Site.{Program}
 use Rattle.m5_meaning.specs.Reduction.{Reduced, gives, goes_on, makes_cell, loads, stores, leaves, handles, watches, wrong, called, called_extern, called_function, first_of, second_of, text_of_number, divided, operated, at_cell, got, unheld, unsham, reduced_unary, reduced_binary, chosen, case_of_sum, case_of_list, reduced_ternary, reduced}
 use Rattle.m5_source_site.specs.ClosedSite.{IsClosedProgram}
-use Rattle.m5_source_site.proofs.ClosedTerm.{left, right, bound}
+use Rattle.m5_terms.proofs.ClosedTerms.{left, right}
+use Rattle.m5_source_site.proofs.ClosedTerm.{bound}
 
 abbrev pub IsClosedReduced : Reduced → Type 0
 IsClosedReduced (gives v) = IsClosed v

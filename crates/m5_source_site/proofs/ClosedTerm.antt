@@ -6,30 +6,7 @@ use Rattle.m5_terms.specs.Substitution.{unary_binders, binary_binders, second_bi
 use Rattle.m5_terms.specs.declared.form.LeafForm.{LeafForm}
 use Rattle.m5_terms.specs.declared.form.LeafForm.TheVariants as leaf_form
 use Rattle.m5_terms.specs.Closed.{closed_under, closed_leaf, IsClosed}
-
-pub both : (p q : Bool) → IsTrue p → IsTrue q → IsTrue (p && q)
-both true q s t = t
-both false q s t = s
-
-pub left : (p q : Bool) → IsTrue (p && q) → IsTrue p
-left true q h = refl
-left false q h = h
-
-pub right : (p q : Bool) → IsTrue (p && q) → IsTrue q
-right true q h = h
-right false q h = cc
-
-either : (p q r : Bool) → (IsTrue p → IsTrue r) → (IsTrue q → IsTrue r) → IsTrue (p || q) → IsTrue r
-either true q r f g h = f refl
-either false q r f g h = g h
-
-or-left : (p q : Bool) → IsTrue p → IsTrue (p || q)
-or-left true q h = refl
-or-left false q h = cc
-
-or-right : (p q : Bool) → IsTrue q → IsTrue (p || q)
-or-right true q h = refl
-or-right false q h = h
+use Rattle.m5_terms.proofs.ClosedTerms.{both, left, right, either, or-left, or-right, everywhere}
 
 -- whichever is among these is among those
 Within : List ℕ → List ℕ → Type 0
@@ -58,11 +35,6 @@ within (ternary f a b c) xs ys h e =
     (both (closed_under (second_binders f ++ ys) b) _
     (within b _ _ (grow (second_binders f) xs ys h) (left (closed_under (second_binders f ++ xs) b) _ e2))
     (within c _ _ (grow (third_binders f) xs ys h) (right (closed_under (second_binders f ++ xs) b) _ e2)))
-
--- a closed term has no free variable among any
-pub everywhere : (e : Expression) (ys : List ℕ) → IsClosed e → IsTrue (closed_under ys e)
-unfolding Within
-everywhere e ys h = within e [] ys (λ y k. cc) h
 
 -- whichever is among these is the variable or among those
 Beside : ℕ → List ℕ → List ℕ → Type 0

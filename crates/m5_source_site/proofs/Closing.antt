@@ -30,7 +30,7 @@ use Rattle.std.specs.declared.alloc.AllocError.{AllocError}
 use Rattle.m5_source_site.specs.declared.next.Next.{Next}
 use Rattle.m5_source_site.specs.declared.next.Next.TheVariants as next
 use Rattle.m5_source_site.specs.Waiting.{Stands, KeepsClosed}
-use Rattle.m5_source_site.proofs.ClosedTerm.{both, left, right, everywhere}
+use Rattle.m5_terms.proofs.ClosedTerms.{both, left, right, everywhere}
 use Rattle.m5_source_site.proofs.ClosedReduction.{IsClosedReduced, reduced-closed}
 
 -- what an answer gives is what it is

@@ -149,7 +149,7 @@ fn wrap(
     let kept = NodeBox::new(alloc, value.copy(alloc)?)?;
     match form {
         UnaryView::Hold => Ok(Reduced::Gives(Node::unary(UnaryForm::Held(world), kept))),
-        other => Ok(Reduced::Gives(Node::unary(other.copy(alloc)?, kept))),
+        other => Ok(Reduced::Gives(Node::unary(other.copy()?, kept))),
     }
 }
 

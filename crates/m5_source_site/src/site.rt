@@ -92,6 +92,27 @@ impl Site {
         self.is_stopped
     }
 
+    /// Its threads, the one that runs in front.
+    pub fn threads(&self) -> &Queue<SiteThread>
+        ensures { result.now ≡ self.now.threads }
+    {
+        &self.held_threads
+    }
+
+    /// What its cells hold, in the order of their numbers.
+    pub fn cells(&self) -> &[Node]
+        ensures { result.now ≡ self.now.cells }
+    {
+        self.held_cells.as_slice()
+    }
+
+    /// Its handlers, in the order of their numbers.
+    pub fn handlers(&self) -> &[Node]
+        ensures { result.now ≡ self.now.handlers }
+    {
+        self.held_handlers.as_slice()
+    }
+
     /// The site that goes on no more.
     pub fn stop(&mut self)
         ensures { self.new ≡ record self.old { stopped = true } }

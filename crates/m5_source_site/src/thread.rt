@@ -40,6 +40,20 @@ impl SiteThread {
         }
     }
 
+    /// What waits for a value, the top frame first.
+    pub fn frames(&self) -> &FrameQueue
+        ensures { result.now ≡ self.now.frames }
+    {
+        &self.held_frames
+    }
+
+    /// What it looks at.
+    pub fn focus(&self) -> &Focus
+        ensures { result.now ≡ self.now.focus }
+    {
+        &self.held_focus
+    }
+
     /// The number of its frames, of its nodes and of the bytes of its texts; `u64::MAX` where the
     /// sum is larger.
     pub fn size(&self) -> u64

@@ -9,3 +9,4 @@ pub mod Matched
 pub mod Lifted
 pub mod Chained
 pub mod Played
+pub mod ClosedTerms

@@ -5,12 +5,12 @@ ghost use Rattle.m5_terms.specs.Expression.{leaf, unary, binary, ternary};
 ghost use Rattle.m5_terms.specs.Opened.{viewed_leaf, viewed_unary};
 
 use crate::form::{LeafForm, UnaryForm};
-use crate::node::{Node, NodeBox};
+use crate::node::Node;
 use crate::opened::{LeafView, Opened, UnaryView};
 use std::alloc::{AllocError, Global};
 
 impl LeafView<'_> {
-    /// The form with a text or type of its own.
+    /// The form with a text of its own; a type is shared.
     pub fn copy(&self, alloc: Global) -> Result<LeafForm, AllocError>
         ensures { IfOk result (λ f. f ≡ viewed_leaf self.now) }
     {
@@ -25,22 +25,22 @@ impl LeafView<'_> {
             LeafView::Str(text) => Ok(LeafForm::Str(text.copy(alloc)?)),
             LeafView::Addr(world) => Ok(LeafForm::Addr(*world)),
             LeafView::Here => Ok(LeafForm::Here),
-            LeafView::Nil(ty) => Ok(LeafForm::Nil(ty.copy(alloc)?)),
+            LeafView::Nil(ty) => Ok(LeafForm::Nil(ty.copy()?)),
             LeafView::CellAt(world, cell) => Ok(LeafForm::CellAt(*world, *cell)),
         }
     }
 }
 
 impl UnaryView<'_> {
-    /// The form with types of its own.
-    pub fn copy(&self, alloc: Global) -> Result<UnaryForm, AllocError>
+    /// The form again; its types are shared.
+    pub fn copy(&self) -> Result<UnaryForm, AllocError>
         ensures { IfOk result (λ f. f ≡ viewed_unary self.now) }
     {
         match self {
-            UnaryView::Fn(var, ty) => Ok(UnaryForm::Fn(*var, ty.copy(alloc)?)),
+            UnaryView::Fn(var, ty) => Ok(UnaryForm::Fn(*var, ty.copy()?)),
             UnaryView::Rec(var, other, ty, codomain) => {
-                let domain = ty.copy(alloc)?;
-                Ok(UnaryForm::Rec(*var, *other, domain, codomain.copy(alloc)?))
+                let domain = ty.copy()?;
+                Ok(UnaryForm::Rec(*var, *other, domain, codomain.copy()?))
             }
             UnaryView::Fst => Ok(UnaryForm::Fst),
             UnaryView::Snd => Ok(UnaryForm::Snd),
@@ -51,41 +51,30 @@ impl UnaryView<'_> {
             UnaryView::Hold => Ok(UnaryForm::Hold),
             UnaryView::Sham => Ok(UnaryForm::Sham),
             UnaryView::Spawn => Ok(UnaryForm::Spawn),
-            UnaryView::Inl(ty) => Ok(UnaryForm::Inl(ty.copy(alloc)?)),
-            UnaryView::Inr(ty) => Ok(UnaryForm::Inr(ty.copy(alloc)?)),
+            UnaryView::Inl(ty) => Ok(UnaryForm::Inl(ty.copy()?)),
+            UnaryView::Inr(ty) => Ok(UnaryForm::Inr(ty.copy()?)),
             UnaryView::Held(world) => Ok(UnaryForm::Held(*world)),
         }
     }
 }
 
 impl Node {
-    /// The same term again, in memory of its own.
-    #[cycle(copy_node)]
+    /// The same term again. Its parts are shared, so the cost does not grow with the term.
     pub fn copy(&self, alloc: Global) -> Result<Node, AllocError>
         ensures { IfOk result (λ n. n ≡ self.now) }
     {
-        match self.open() {
+        match self.open_boxes() {
             Opened::Leaf(form) => Ok(Node::leaf(form.copy(alloc)?)),
             Opened::Unary(form, first) => {
-                let copied = form.copy(alloc)?;
-                Ok(Node::unary(copied, kept(alloc, first)?))
+                let copied = form.copy()?;
+                Ok(Node::unary(copied, first.share()?))
             }
             Opened::Binary(form, first, second) => {
-                Ok(Node::binary(form, kept(alloc, first)?, kept(alloc, second)?))
+                Ok(Node::binary(form, first.share()?, second.share()?))
             }
-            Opened::Ternary(form, first, second, third) => Ok(Node::ternary(
-                form,
-                kept(alloc, first)?,
-                kept(alloc, second)?,
-                kept(alloc, third)?,
-            )),
+            Opened::Ternary(form, first, second, third) => {
+                Ok(Node::ternary(form, first.share()?, second.share()?, third.share()?))
+            }
         }
     }
-}
-
-#[cycle(copy_node)]
-pub(crate) fn kept(alloc: Global, node: &Node) -> Result<NodeBox, AllocError>
-    ensures { IfOk result (λ n. n ≡ node.now) }
-{
-    NodeBox::new(alloc, node.copy(alloc)?)
 }

@@ -4,6 +4,7 @@
 pub mod ask;
 pub mod binders;
 pub mod build;
+pub mod closed;
 pub mod copy;
 pub mod decimal;
 pub mod form;

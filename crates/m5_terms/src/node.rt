@@ -1,11 +1,16 @@
 //! Terms as the program keeps them.
 
-ghost use Rattle.std.specs.Prelude.{◌≡◌, IfOk};
+ghost use Rattle.std.specs.Prelude.{◌≡◌, ◌^◌, ◌-◌, min, IsTrue, IfOk};
 ghost use Rattle.m5_terms.specs.TermMeaning.{term_meaning};
+ghost use Rattle.m5_terms.specs.Size.{node_size};
+ghost use Rattle.m5_terms.specs.Closed.{IsClosed};
 
+use crate::closed::is_known_closed;
+use crate::size::size_of_node;
 use crate::term::Term;
 use std::alloc::{AllocError, Global};
 use std::marker::Model;
+use std::rc::Rc;
 
 /// A term. Contracts see it as plain data, an `Expression`.
 #[cycle(node)]
@@ -51,22 +56,29 @@ impl Node {
     }
 }
 
-/// A node on the heap, which contracts see as its term.
+/// A node on the heap, which contracts see as its term. Terms that have it in common share it. Beside it stand its size, and
+/// whether it is known to have no free variable, so that neither a look at the size nor a substitution goes through it again.
 #[cycle(node)]
 #[derive(Drop)]
 pub struct NodeBox {
-    inner: Box<Node>,
+    inner: Rc<Node>,
+    held_size: u64,
+    known_closed: bool,
 }
 
 impl Model for NodeBox {
-    ghost use Rattle.std.specs.Prelude.{◌*◌, ◌+◌};
+    ghost use Rattle.std.specs.Prelude.{◌≡◌, ◌*◌, ◌+◌, ◌^◌, ◌-◌, min, IsTrue};
     ghost use Rattle.m5_terms.specs.Expression.{Expression, expression_code, node_count};
+    ghost use Rattle.m5_terms.specs.Size.{node_size};
+    ghost use Rattle.m5_terms.specs.Closed.{IsClosed};
 
     ghost Value = { Expression };
 
     ghost coded = { expression_code };
 
     ghost view = { λ b. b.inner.value };
+
+    ghost invariant = { λ b. (b.held_size ≡ min (node_size b.inner.value) (2 ^ 64 - 1)) × (IsTrue b.known_closed → IsClosed b.inner.value) };
 
     ghost size = { λ t. 2 * node_count t + 1 };
 
@@ -79,8 +91,25 @@ impl NodeBox {
     pub fn new(alloc: Global, node: Node) -> Result<NodeBox, AllocError>
         ensures { IfOk result (λ b. b ≡ node) }
     {
+        let held_size = size_of_node(&node);
+        let known_closed = is_known_closed(&node);
         Ok(NodeBox {
-            inner: Box::new(alloc, node)?,
+            inner: Rc::new(alloc, node)?,
+            held_size,
+            known_closed,
+        })
+    }
+
+    /// A node of a closed term, which no substitution goes through.
+    pub fn closed(alloc: Global, node: Node) -> Result<NodeBox, AllocError>
+        requires { IsClosed node }
+        ensures { IfOk result (λ b. b ≡ node) }
+    {
+        let held_size = size_of_node(&node);
+        Ok(NodeBox {
+            inner: Rc::new(alloc, node)?,
+            held_size,
+            known_closed: true,
         })
     }
 
@@ -90,10 +119,28 @@ impl NodeBox {
         &self.inner
     }
 
-    pub fn into_inner(self) -> Node
-        ensures { result ≡ self }
+    /// One owner more of the same term.
+    pub fn share(&self) -> Result<NodeBox, AllocError>
+        ensures { IfOk result (λ b. b ≡ self.now) }
     {
-        let NodeBox { inner } = self;
-        Box::into_inner(inner)
+        Ok(NodeBox {
+            inner: self.inner.clone()?,
+            held_size: self.held_size,
+            known_closed: self.known_closed,
+        })
+    }
+
+    /// The size of the term; `u64::MAX` where it is larger.
+    pub fn size(&self) -> u64
+        ensures { result ≡ min (node_size self.now) (2 ^ 64 - 1) }
+    {
+        self.held_size
+    }
+
+    /// Whether the term is known to have no free variable. A closed function may be unknown.
+    pub fn is_known_closed(&self) -> bool
+        ensures { IsTrue result → IsClosed self.now }
+    {
+        self.known_closed
     }
 }

@@ -6,7 +6,7 @@ ghost use Rattle.m5_terms.specs.TermMeaning.{parts, expression_of};
 ghost use Rattle.m5_terms.specs.Opened.{opened, PartsAreSmaller};
 
 use crate::form::{BinaryForm, TernaryForm};
-use crate::node::Node;
+use crate::node::{Node, NodeBox};
 use crate::term::Term;
 use crate::text::Text;
 use crate::types::{Prim, Ty, World};
@@ -162,5 +162,13 @@ impl Node {
                 Opened::Ternary(form, first.get(), second.get(), third.get())
             }
         }
+    }
+
+    /// The form and the boxes of the parts, which can be shared.
+    pub fn open_boxes(&self) -> Opened<'_, NodeBox>
+        ensures value { expression_of (opened result) ≡ self.now }
+        ensures smaller { PartsAreSmaller node_count (node_count self.now) result }
+    {
+        self.term.open()
     }
 }

@@ -17,18 +17,19 @@ fn size_of_leaf(form: &LeafView<'_>) -> u64
     }
 }
 
-fn size_of_node(node: &Node) -> u64
+/// The nodes of the term and the bytes of its texts; `u64::MAX` where the sum is larger. The parts know theirs.
+pub fn size_of_node(node: &Node) -> u64
     ensures { result ≡ min (node_size node.now) (2 ^ 64 - 1) }
 {
-    match node.open() {
+    match node.open_boxes() {
         Opened::Leaf(form) => size_of_leaf(&form),
-        Opened::Unary(_, first) => 1u64.saturating_add(size_of_node(first)),
+        Opened::Unary(_, first) => 1u64.saturating_add(first.size()),
         Opened::Binary(_, first, second) => {
-            1u64.saturating_add(size_of_node(first).saturating_add(size_of_node(second)))
+            1u64.saturating_add(first.size().saturating_add(second.size()))
         }
         Opened::Ternary(_, first, second, third) => {
-            let others = size_of_node(second).saturating_add(size_of_node(third));
-            1u64.saturating_add(size_of_node(first).saturating_add(others))
+            let others = second.size().saturating_add(third.size());
+            1u64.saturating_add(first.size().saturating_add(others))
         }
     }
 }

@@ -79,7 +79,7 @@ fn knows_the_primitives(rt: HostRuntime) -> Result<(), Fail> {
     assert_eq!(rt; extern_of(b"get_text"), Some(Prim::GetText));
     assert_eq!(rt; extern_of(b"gettext"), None);
     let read = Prim::Read.ty(alloc)?;
-    assert!(rt; is_same(&read, &read.copy(alloc)?));
+    assert!(rt; is_same(&read, &read.copy()?));
     assert!(rt; !is_same(&read, &Prim::Say.ty(alloc)?));
     assert_eq!(rt;
         seal_of(0x0102_0304).0,

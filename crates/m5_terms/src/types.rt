@@ -6,6 +6,7 @@ ghost use Rattle.m5_terms.specs.ShapeMeaning.{shape_meaning};
 
 use std::alloc::{AllocError, Global};
 use std::marker::Model;
+use std::rc::Rc;
 
 /// A world of a typing: one that has sites, or `Any` for what means the same at each of them.
 #[derive(Clone, Copy, Debug, PartialEq, Eq)]
@@ -50,11 +51,12 @@ impl Model for Ty {
     ghost size_decreases = { λ a h. Prim.grind arith };
 }
 
-/// A type on the heap, which contracts see as that type.
+/// A type on the heap, which contracts see as that type. Types that have it in common share it, so that a large type is
+/// handed on without a copy.
 #[cycle(ty)]
 #[derive(Drop)]
 pub struct TypeBox {
-    inner: Box<Ty>,
+    inner: Rc<Ty>,
 }
 
 impl Model for TypeBox {
@@ -79,7 +81,7 @@ impl TypeBox {
         ensures { IfOk result (λ b. b ≡ ty) }
     {
         Ok(TypeBox {
-            inner: Box::new(alloc, ty)?,
+            inner: Rc::new(alloc, ty)?,
         })
     }
 
@@ -89,11 +91,24 @@ impl TypeBox {
         &self.inner
     }
 
-    pub fn into_inner(self) -> Ty
-        ensures { result ≡ self }
+    /// One owner more of the same type.
+    pub fn share(&self) -> Result<TypeBox, AllocError>
+        ensures { IfOk result (λ b. b ≡ self.now) }
+    {
+        Ok(TypeBox {
+            inner: self.inner.clone()?,
+        })
+    }
+
+    /// The type itself. Its parts stay shared where others own it too.
+    pub fn into_inner(self) -> Result<Ty, AllocError>
+        ensures { IfOk result (λ ty. ty ≡ self) }
     {
         let TypeBox { inner } = self;
-        Box::into_inner(inner)
+        match Rc::try_unwrap(inner) {
+            Ok(ty) => Ok(ty),
+            Err(shared) => shared.copy(),
+        }
     }
 }
 
@@ -160,9 +175,8 @@ impl Ty {
         shape
     }
 
-    /// The same type again, in memory of its own.
-    #[cycle(copy_ty)]
-    pub fn copy(&self, alloc: Global) -> Result<Ty, AllocError>
+    /// The same type again. Its parts are shared, so the cost does not grow with the type.
+    pub fn copy(&self) -> Result<Ty, AllocError>
         ensures { IfOk result (λ ty. ty ≡ self.now) }
     {
         match &self.shape {
@@ -170,23 +184,16 @@ impl Ty {
             Shape::Bool => Ok(Ty::new(Shape::Bool)),
             Shape::Int => Ok(Ty::new(Shape::Int)),
             Shape::Str => Ok(Ty::new(Shape::Str)),
-            Shape::Prod(a, b) => Ok(Ty::new(Shape::Prod(kept(a, alloc)?, kept(b, alloc)?))),
-            Shape::Sum(a, b) => Ok(Ty::new(Shape::Sum(kept(a, alloc)?, kept(b, alloc)?))),
-            Shape::List(a) => Ok(Ty::new(Shape::List(kept(a, alloc)?))),
-            Shape::Fun(a, b) => Ok(Ty::new(Shape::Fun(kept(a, alloc)?, kept(b, alloc)?))),
-            Shape::Cell(a) => Ok(Ty::new(Shape::Cell(kept(a, alloc)?))),
-            Shape::At(a, w) => Ok(Ty::new(Shape::At(kept(a, alloc)?, *w))),
-            Shape::Sham(a) => Ok(Ty::new(Shape::Sham(kept(a, alloc)?))),
+            Shape::Prod(a, b) => Ok(Ty::new(Shape::Prod(a.share()?, b.share()?))),
+            Shape::Sum(a, b) => Ok(Ty::new(Shape::Sum(a.share()?, b.share()?))),
+            Shape::List(a) => Ok(Ty::new(Shape::List(a.share()?))),
+            Shape::Fun(a, b) => Ok(Ty::new(Shape::Fun(a.share()?, b.share()?))),
+            Shape::Cell(a) => Ok(Ty::new(Shape::Cell(a.share()?))),
+            Shape::At(a, w) => Ok(Ty::new(Shape::At(a.share()?, *w))),
+            Shape::Sham(a) => Ok(Ty::new(Shape::Sham(a.share()?))),
             Shape::Addr(w) => Ok(Ty::new(Shape::Addr(*w))),
         }
     }
-}
-
-#[cycle(copy_ty)]
-fn kept(part: &TypeBox, alloc: Global) -> Result<TypeBox, AllocError>
-    ensures { IfOk result (λ p. p ≡ part.now) }
-{
-    TypeBox::new(alloc, part.get().copy(alloc)?)
 }
 
 /// Whether a value of the type means the same at every world: base types, addresses, held and
