@@ -15,17 +15,18 @@ use Rattle.m5_network.specs.Board.{Board, answer_of}
 use Rattle.m5_source_site.specs.ClosedSite.{IsClosedSite, IsClosedNext}
 use Rattle.m5_source_site.specs.Waiting.{resumed}
 use Rattle.m5_source_site.specs.declared.resume.Wait.{Wait}
-use Rattle.m5_reference.specs.Ahead.{kept}
-use Rattle.m5_reference.specs.ClosedTurn.{IsClosedBoard, IsClosedLeft, IsClosedTurned}
+use Rattle.m5_sites.specs.Sites.{kept}
+use Rattle.m5_sites.specs.ClosedSites.{IsClosedBoard, IsClosedLeft}
+use Rattle.m5_reference.specs.ClosedTurn.{IsClosedTurned}
 use Rattle.m5_network.specs.FirstMoment.{AsksFree}
 use Rattle.m5_reference.specs.Turning.{IsAskTurned}
 use Rattle.m5_reference.specs.declared.limits.Limits.{Limits}
 use Rattle.m5_reference.specs.declared.turn.Turned.{Turned}
 use Rattle.m5_reference.specs.declared.turn.Turned.TheVariants as turned
 use Rattle.m5_network.proofs.Asking.{looks}
-use Rattle.m5_reference.proofs.Asking.{same-wait}
-use Rattle.m5_reference.proofs.Silence.{only-look}
-use Rattle.m5_reference.proofs.ClosedBoard.{answer-closed}
+use Rattle.m5_sites.proofs.Asking.{same-wait}
+use Rattle.m5_sites.proofs.Silence.{only-look}
+use Rattle.m5_sites.proofs.ClosedBoard.{answer-closed}
 
 -- some scenario with these numbers
 abbrev pub with_limits : Limits → Scenario

@@ -24,12 +24,10 @@ use Rattle.m5_script.specs.Scenario.{Scenario}
 use Rattle.m5_reference.specs.declared.limits.Limits.{Limits}
 use Rattle.m5_network.specs.FirstMoment.{MayStop, IsFree}
 use Rattle.m5_reference.specs.Moments.{HasLimits}
+use Rattle.m5_sites.proofs.Counted.{idle_asks}
 
 pub idle : (P : Program) (S : Scenario) (w : World) (x : Site) → x.threads ≡ [] → IsFree P S w x
 idle P S w x e = λ cause m. m.has_thread e
-
-pub idle_asks : (P : Program) (w : World) (x : Site) → x.threads ≡ [] → site_next P w x ≡ asks ask.Take (after_take w x)
-idle_asks P w x e = ap (λ (ts : List Thread). front P w x ts) e
 
 pub spent : (P : Program) (S : Scenario) (l : Limits) (w : World) (x : Site) → HasLimits S l → x.threads ≢ [] → l.steps ≤ x.steps → MayStop P S w Spent x × (Spent ≡ Region → MayStop P S w Spent x → ⊥)
 spent P S l w x h t e = (record { has_thread = t; reached = omega (arith, h.steps, e) }, λ q m. cc)
@@ -45,72 +43,6 @@ free-of P S l w x h e r Table m = m.reached
 
 pub free : (P : Program) (S : Scenario) (l : Limits) (w : World) (x : Site) → HasLimits S l → x.steps < l.steps → x.weight + next_weight P x (site_next P w x) < l.region → IsFree P S w x
 free P S l w x h e r = free-of P S l w x h e r
-
--- a local step counts one
-abbrev pub IsCounted : Site → SiteNext → Type 0
-IsCounted s (goes t) = t.steps ≡ s.steps + 1
-IsCounted s _ = Unit {0}
-
-either : (b : Bool) (s : Site) (n : SiteNext) → IsCounted s n → IsCounted s (if b then stops_full s else n)
-either true s n h = tt
-either false s n h = h
-
-both-ways : (b : Bool) (s : Site) (n m : SiteNext) → IsCounted s n → IsCounted s m → IsCounted s (if b then n else m)
-both-ways true s n m h k = h
-both-ways false s n m h k = k
-
-loaded-counted : (P : Program) (s : Site) (ts : List Thread) (fs : List Frame) (w : World) (o : Option Expression) → IsCounted s (loaded P s ts fs w o)
-loaded-counted P s ts fs w None = tt
-loaded-counted P s ts fs w (Some v) = refl
-
-stored-counted : (P : Program) (s : Site) (ts : List Thread) (fs : List Frame) (w : World) (n : ℕ) (v : Expression) (o : Option Expression) → IsCounted s (stored P s ts fs w n v o)
-stored-counted P s ts fs w n v None = tt
-stored-counted P s ts fs w n v (Some x) = refl
-
-outcome-counted : (P : Program) (u : World) (s : Site) (ts : List Thread) (fs : List Frame) (w : World) (r : Reduced) → IsCounted s (outcome P u s ts fs w r)
-outcome-counted P u s ts fs w (makes_cell v) = either (is_full s.cells) s _ refl
-outcome-counted P u s ts fs w (loads n) = loaded-counted P s ts fs w (slice_get s.cells n)
-outcome-counted P u s ts fs w (handles e h) = either (is_full s.handlers) s _ tt
-outcome-counted P u s ts fs w (watches e h) = either (is_full s.handlers) s _ tt
-outcome-counted P u s ts fs w (gives v) = refl
-outcome-counted P u s ts fs w (makes_text t) = refl
-outcome-counted P u s ts fs w (goes_on e) = refl
-outcome-counted P u s ts fs w (stores n v) = stored-counted P s ts fs w n v (slice_get s.cells n)
-outcome-counted P u s ts fs w (leaves v e) = tt
-outcome-counted P u s ts fs w (says t) = tt
-outcome-counted P u s ts fs w (shows t) = tt
-outcome-counted P u s ts fs w (sets e t) = tt
-outcome-counted P u s ts fs w (writes e t) = tt
-outcome-counted P u s ts fs w (gets e) = tt
-outcome-counted P u s ts fs w (reads e) = tt
-outcome-counted P u s ts fs w reduction.wrong = tt
-
-atom-counted : (P : Program) (s : Site) (ts : List Thread) (fs : List Frame) (w : World) (e : Expression) → IsCounted s (atom P s ts fs w e)
-atom-counted P s ts fs w (unary unary_form.Spawn a) = either (is_full s.threads) s _ refl
-atom-counted P s ts fs w (leaf leaf_form.Here) = refl
-atom-counted P s ts fs w (leaf (leaf_form.Str t)) = refl
-atom-counted P s ts fs w e = refl
-
-evaluated-counted : (P : Program) (s : Site) (ts : List Thread) (fs : List Frame) (w : World) (e : Expression) (n : ℕ) → IsCounted s (evaluated P s ts fs w e n)
-evaluated-counted P s ts fs w e zero = atom-counted P s ts fs w e
-evaluated-counted P s ts fs w e (suc n) = refl
-
-returned-counted : (P : Program) (u : World) (s : Site) (ts : List Thread) (fs : List Frame) (w : World) (v : Expression) → IsCounted s (returned P u s ts fs w v)
-returned-counted P u s ts [] w v = refl
-returned-counted P u s ts (Part x e k ∷ fs) w v =
-    both-ways (nat_lt (suc k) (parts (fill e k v))) s (part_begun P s ts fs x (fill e k v) (suc k)) (outcome P u s ts fs x (reduced P u (fill e k v))) refl (outcome-counted P u s ts fs x (reduced P u (fill e k v)))
-returned-counted P u s ts (Return x ∷ fs) w v = tt
-
-focused-counted : (P : Program) (u : World) (s : Site) (ts : List Thread) (fs : List Frame) (f : Focus) → IsCounted s (focused P u s ts fs f)
-focused-counted P u s ts fs (Eval w e) = evaluated-counted P s ts fs w e (parts e)
-focused-counted P u s ts fs (Returned w v) = returned-counted P u s ts fs w v
-
-front-counted : (P : Program) (u : World) (s : Site) (ts : List Thread) → IsCounted s (front P u s ts)
-front-counted P u s [] = tt
-front-counted P u s (t ∷ ts) = focused-counted P u s ts t.frames t.focus
-
-pub counted : (P : Program) (u : World) (s t : Site) → site_next P u s ≡ goes t → t.steps ≡ s.steps + 1
-counted P u s t e = subst (IsCounted s) e (front-counted P u s s.threads)
 
 -- what the code sees of a state from its threads and numbers
 pub sees_idle : (P : Program) (S : Scenario) (w : World) (x : Site) → x.threads ≡ [] → IsFree P S w x × (site_next P w x ≡ asks ask.Take (after_take w x))

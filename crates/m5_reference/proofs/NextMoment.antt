@@ -6,31 +6,15 @@ use Rattle.m5_meaning.specs.Site.{Program, Site}
 use Rattle.m5_meaning.specs.Step.{SiteNext, site_next}
 use Rattle.m5_script.specs.Scenario.{Scenario}
 use Rattle.m5_network.specs.FirstMoment.{IsFree, ComesFree}
+use Rattle.m5_sites.proofs.LocalSteps.{same-step, one-way, longer, earlier}
 use Rattle.m5_reference.specs.declared.limits.Limits.{Limits}
 use Rattle.m5_reference.specs.declared.moment.Moment.{Moment}
 use Rattle.m5_reference.specs.declared.moment.Moment.TheVariants as moment
 use Rattle.m5_reference.specs.declared.moment.StepOrMoment.TheVariants as step_or_moment
 use Rattle.m5_reference.specs.Moments.{HasLimits, IsMomentAt, IsStepOrMomentAt, IsMoment}
 
-same-step : (a b : Site) (n : SiteNext) → n ≡ goes a → n ≡ goes b → a ≡ b
-same-step a b n e f = let k : goes a ≡ goes b = sym e ∙ f in cc
-
--- local steps lead to one state
-one-way : (f : Site → SiteNext) (n : ℕ) (a b c : Site) → Comes f n a b → Comes f n a c → b ≡ c
-one-way f zero a b c h k = sym h ∙ k
-one-way f (suc n) a b c h k =
-    let e : h.0 ≡ k.0 = same-step h.0 k.0 (f a) h.1 k.1 in
-    one-way f n k.0 b c (subst (λ (z : Site). Comes f n z b) e h.2) k.2
-
-longer : (f : Site → SiteNext) (n : ℕ) (a b c : Site) → Comes f n a b → f b ≡ goes c → Comes f (suc n) a c
-longer f zero a b c h e = (c, subst (λ (z : Site). f z ≡ goes c) (sym h) e, refl)
-longer f (suc n) a b c h e = (h.0, h.1, longer f n h.0 b c h.2 e)
-
 pub begin_free : (P : Program) (S : Scenario) (w : World) (a : Site) → ComesFree P S w 0 a a
 begin_free P S w a = record { comes = refl; free = λ m x h k. absurd (omega (arith, h)) }
-
-earlier : (m n : ℕ) → m < suc n → (m < n) ⊎ (m ≡ n)
-earlier m n h = grind arith
 
 pub step_free : (P : Program) (S : Scenario) (w : World) (n : ℕ) (a b c : Site) → ComesFree P S w n a b → IsFree P S w b → site_next P w b ≡ goes c → ComesFree P S w (suc n) a c
 step_free P S w n a b c h k e = record {

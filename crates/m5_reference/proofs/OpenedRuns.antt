@@ -18,66 +18,22 @@ use Rattle.m5_source_site.specs.ClosedSite.{IsClosedFrame, IsClosedThread, IsClo
 use Rattle.m5_terms.specs.Closed.{IsClosed}
 use Rattle.m5_board.specs.Boards.{board_of}
 use Rattle.m5_reference.specs.Ahead.{IsAhead}
-use Rattle.m5_reference.specs.ClosedTurn.{IsClosedBoard, IsClosedLeft}
+use Rattle.m5_sites.specs.ClosedSites.{IsClosedBoard, IsClosedLeft}
 use Rattle.m5_reference.specs.Finishing.{Opens}
-use Rattle.m5_reference.specs.Opening.{sites_opened}
-use Rattle.m5_reference.specs.Sites.{SessionSites, site_in, site_of_session, site_at}
+use Rattle.m5_sites.specs.Opening.{sites_opened}
+use Rattle.m5_sites.specs.Sites.{SessionSites, site_in, site_of_session, site_at}
 use Rattle.m5_reference.specs.declared.running.Running.{Running}
+use Rattle.m5_sites.proofs.Opened.{opened-at, rows-closed, links-closed}
 use Rattle.m5_reference.proofs.NextMoment.{begin_free}
 
--- each of the copies is the one that was copied
-copied : {A : Type 0} (n k : ℕ) (x : A) → k < n → slice_get (replicate n x) k ≡ Some x
-copied n k x h =
-    let within : k < length (replicate n x) = rw (length-replicate n x) h in
-    slice_get-get_or (replicate n x) k x within ∙ ap Some (get_or-replicate n k x x h)
-
-in-row : (P : Program) (S : Scenario) (w : World) → w ≢ Any → IsAhead P S w (opening_site (opening_threads P w)) (site_in (sites_opened P) w)
-in-row P S Home n = (refl, (0, begin_free P S Home (opening_site (opening_threads P Home))))
-in-row P S Server n = (refl, (0, begin_free P S Server (opening_site (opening_threads P Server))))
-in-row P S Panel n = (refl, (0, begin_free P S Panel (opening_site (opening_threads P Panel))))
-in-row P S Any n = absurd (n refl)
+opened-ahead : (P : Program) (S : Scenario) (w : World) → IsAhead P S w (opening_site (opening_threads P w)) (Some (opening_site (opening_threads P w)))
+opened-ahead P S Home = (refl, (0, begin_free P S Home (opening_site (opening_threads P Home))))
+opened-ahead P S Server = (refl, (0, begin_free P S Server (opening_site (opening_threads P Server))))
+opened-ahead P S Panel = (refl, (0, begin_free P S Panel (opening_site (opening_threads P Panel))))
+opened-ahead P S Any = (refl, (0, begin_free P S Any (opening_site (opening_threads P Any))))
 
 in-rows : (P : Program) (S : Scenario) (n s : ℕ) (w : World) → w ≢ Any → 1 ≤ s → s ≤ n → IsAhead P S w (opening_site (opening_threads P w)) (site_at (replicate n (sites_opened P)) s w)
-in-rows P S n zero w r h k = absurd (omega (arith, h))
-in-rows P S n (suc s) w r h k = subst (λ (o : Option SessionSites). IsAhead P S w (opening_site (opening_threads P w)) (site_of_session o w)) (sym (copied n s (sites_opened P) (omega (arith, k)))) (in-row P S w r)
-
-main-closed : (P : Program) → IsClosedProgram P → IsClosedSite (opening_site (opening_threads P Home))
-main-closed P h = record {
-  threads = All-cons IsClosedThread _ [] (record { frames = All-nil IsClosedFrame; focus = h.main }) (All-nil IsClosedThread);
-  cells = All-nil IsClosed;
-  handlers = All-nil IsClosed;
-}
-
-idle-closed : IsClosedSite (opening_site [])
-idle-closed = record { threads = All-nil IsClosedThread; cells = All-nil IsClosed; handlers = All-nil IsClosed }
-
-row-closed : (P : Program) → IsClosedProgram P → (w : World) → IsClosedLeft (site_in (sites_opened P) w)
-row-closed P h Home = main-closed P h
-row-closed P h Server = idle-closed
-row-closed P h Panel = idle-closed
-row-closed P h Any = tt
-
-of-copies : (P : Program) → IsClosedProgram P → (n k : ℕ) (w : World) → IsClosedLeft (site_of_session (slice_get (replicate n (sites_opened P)) k) w)
-of-copies P h zero k w = tt
-of-copies P h (suc n) zero w = row-closed P h w
-of-copies P h (suc n) (suc k) w = of-copies P h n k w
-
-rows-closed : (P : Program) → IsClosedProgram P → (n s : ℕ) (w : World) → IsClosedLeft (site_at (replicate n (sites_opened P)) s w)
-rows-closed P h n zero w = tt
-rows-closed P h n (suc s) w = of-copies P h n s w
-
-abbrev IsClosedRaw : RawItem → Type 0
-IsClosedRaw r = IsClosedItem (raw r.bytes)
-
-raws-closed : (rs : List RawItem) → All IsClosedRaw rs
-raws-closed [] = All-nil IsClosedRaw
-raws-closed (r ∷ rs) = All-cons IsClosedRaw r rs tt (raws-closed rs)
-
--- the links of the opening hold raw bytes alone
-links-closed : (S : Scenario) → IsClosedBoard (opening_board S)
-links-closed S = λ s v w.
-    each-at (λ (r : PerWorld (List Item)). All IsClosedItem (at r w)) (λ u. each (λ x. raw_items s u x S.raws)) v
-    (λ u. each-at (All IsClosedItem) (λ x. raw_items s u x S.raws) w (λ x. All-map IsClosedItem (λ (r : RawItem). raw r.bytes) (raws_for s u x S.raws) (raws-closed (raws_for s u x S.raws))))
+in-rows P S n s w r h k = subst (IsAhead P S w (opening_site (opening_threads P w))) (sym (opened-at P n s w r h k)) (opened-ahead P S w)
 
 pub opens : (P : Program) (S : Scenario) (r : Running) → IsClosedProgram P → r.sites.items ≡ replicate S.sessions (sites_opened P) → board_of r.board ≡ opening_board S → length r.board.desks ≡ S.sessions → r.entries ≡ [] → Opens P S r
 opens P S r h rows board desks entries =

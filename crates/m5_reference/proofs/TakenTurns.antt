@@ -9,20 +9,16 @@ use Rattle.m5_script.specs.declared.items.SiteName.{SiteName}
 use Rattle.m5_network.specs.Run.{Network, IsSite, with_site}
 use Rattle.m5_board.specs.Boards.{board_of}
 use Rattle.m5_reference.specs.Ahead.{IsAhead}
-use Rattle.m5_reference.specs.ClosedTurn.{IsClosedBoard, IsClosedLeft}
+use Rattle.m5_sites.specs.ClosedSites.{IsClosedBoard, IsClosedLeft}
 use Rattle.m5_reference.specs.Running.{StandsFor, IsReady, TakesTurn}
-use Rattle.m5_reference.specs.Sites.{site_at, with_site_at}
+use Rattle.m5_sites.specs.Sites.{site_at, with_site_at}
 use Rattle.m5_reference.specs.Turning.{MakesDeed, FindsNothing}
 use Rattle.m5_reference.specs.declared.running.Running.{Running}
 use Rattle.m5_network.proofs.Places.{at-place}
-use Rattle.m5_reference.proofs.SiteMaps.{all-at, stays-at, twice-at}
+use Rattle.m5_sites.proofs.SiteMaps.{all-at, stays-at, put-back}
 
 abbrev Sites : Type 0
 Sites = ℕ → World → Option Site
-
--- the site that was taken out, and what is put back
-put-back : (s : ℕ) (w : World) (x y : Option Site) (old mid new : Sites) → mid ≡ with_site_at s w x old → new ≡ with_site_at s w y mid → new ≡ with_site_at s w y old
-put-back s w x y old mid new e h = h ∙ (ap (with_site_at s w y) e ∙ (λ i. λ z. λ v. twice-at s w x y old z v i))
 
 -- a site that was gone stays gone
 stays-gone : (s : ℕ) (w : World) (old new : Sites) → None ≡ old s w → new ≡ with_site_at s w None old → new ≡ old

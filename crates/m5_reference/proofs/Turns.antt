@@ -18,15 +18,16 @@ use Rattle.m5_network.specs.Run.{Network, with_site}
 use Rattle.m5_source_site.specs.Waiting.{resumed}
 use Rattle.m5_source_site.specs.declared.resume.Wait.{Wait}
 use Rattle.m5_board.specs.Boards.{BoardLists, board_of}
-use Rattle.m5_reference.specs.Ahead.{IsAhead, kept}
+use Rattle.m5_sites.specs.Sites.{kept}
+use Rattle.m5_reference.specs.Ahead.{IsAhead}
 use Rattle.m5_network.specs.FirstMoment.{ComesFree, StopsFirst, AsksFree, GoesWrong}
 use Rattle.m5_reference.specs.Turning.{MakesDeed, IsStuck, IsTurned, IsAskTurned}
 use Rattle.m5_reference.specs.declared.turn.Turned.{Turned}
 use Rattle.m5_reference.specs.declared.turn.Turned.TheVariants as turned
 use Rattle.m5_reference.proofs.NextMoment.{begin_free, plus, follow}
 use Rattle.m5_network.proofs.Asking.{looks}
-use Rattle.m5_reference.proofs.Asking.{same-wait}
-use Rattle.m5_reference.proofs.Silence.{only-look, stays}
+use Rattle.m5_sites.proofs.Asking.{same-wait}
+use Rattle.m5_sites.proofs.Silence.{only-look, stays}
 
 by-stop : (P : Program) (S : Scenario) (w : World) (t : Site) (b : Bool) → t.stopped ≡ b → IsAhead P S w t (if b then None else Some t)
 by-stop P S w t true e = e

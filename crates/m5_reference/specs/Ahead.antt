@@ -1,5 +1,5 @@
 -- The code's site beside the definition's.
-use Rattle.std.specs.Prelude.{◌≡◌, ℕ, true, false, Option, Some, None, if◌then◌else◌}
+use Rattle.std.specs.Prelude.{◌≡◌, ℕ, true, false, Option, Some, None}
 use Rattle.m5_terms.specs.declared.types.World.{World}
 use Rattle.m5_meaning.specs.Site.{Program, Site}
 use Rattle.m5_script.specs.Scenario.{Scenario}
@@ -9,7 +9,3 @@ use Rattle.m5_network.specs.FirstMoment.{ComesFree}
 abbrev pub IsAhead : Program → Scenario → World → Site → Option Site → Type 0
 IsAhead P S w x None = x.stopped ≡ true
 IsAhead P S w x (Some y) = (x.stopped ≡ false) × ((n : ℕ) × ComesFree P S w n x y)
-
--- a site that has stopped is gone
-abbrev pub kept : Site → Option Site
-kept t = if t.stopped then None else Some t

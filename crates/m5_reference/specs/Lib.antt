@@ -1,8 +1,6 @@
 pub mod Budget
 pub mod Reference
 pub mod Moments
-pub mod Opening
-pub mod Sites
 pub mod Running
 pub mod Finishing
 pub mod Ahead

@@ -11,9 +11,9 @@ use Rattle.m5_network.specs.Plain.{Turns, Rounds, joined}
 use Rattle.m5_network.specs.Run.{Network, IsSite}
 use Rattle.m5_board.specs.Boards.{board_of}
 use Rattle.m5_reference.specs.Ahead.{IsAhead}
-use Rattle.m5_reference.specs.ClosedTurn.{IsClosedBoard, IsClosedLeft}
+use Rattle.m5_sites.specs.ClosedSites.{IsClosedBoard, IsClosedLeft}
 use Rattle.m5_reference.specs.Reference.{FirstTurn}
-use Rattle.m5_reference.specs.Sites.{site_at}
+use Rattle.m5_sites.specs.Sites.{site_at}
 use Rattle.m5_reference.specs.Turning.{IsStuck}
 use Rattle.m5_reference.specs.declared.running.Going.{Going}
 use Rattle.m5_reference.specs.declared.running.Going.TheVariants as going

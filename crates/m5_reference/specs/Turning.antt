@@ -14,7 +14,8 @@ use Rattle.m5_network.specs.Entries.{Deed, shown, entry_of}
 use Rattle.m5_network.specs.Claim.{has_seal}
 use Rattle.m5_network.specs.Run.{Network, with_site}
 use Rattle.m5_board.specs.Boards.{BoardLists, board_of}
-use Rattle.m5_reference.specs.Ahead.{IsAhead, kept}
+use Rattle.m5_sites.specs.Sites.{kept}
+use Rattle.m5_reference.specs.Ahead.{IsAhead}
 use Rattle.m5_reference.specs.Reference.{FirstTurn}
 use Rattle.m5_reference.specs.declared.turn.Turned.{Turned}
 use Rattle.m5_reference.specs.declared.turn.Turned.TheVariants as turned

@@ -3,9 +3,7 @@
 
 pub mod limits;
 pub mod moment;
-pub mod opening;
 pub mod rounds;
 pub mod run;
 pub mod running;
-pub mod sites;
 pub mod turn;

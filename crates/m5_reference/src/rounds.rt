@@ -1,9 +1,7 @@
 //! Rounds over all sites, until one finds nothing.
 
-ghost use Rattle.std.specs.Prelude.{◌≡◌, ◌++◌, length, map, All, IfOk, OnOk};
-ghost use Rattle.m5_terms.specs.Worlds.{site_worlds};
+ghost use Rattle.std.specs.Prelude.{length, All, IfOk};
 ghost use Rattle.m5_script.specs.Scenario.{Scenario};
-ghost use Rattle.m5_network.specs.Plain.{sites_of};
 ghost use Rattle.m5_network.specs.Run.{Network, IsSite};
 ghost use Rattle.m5_reference.specs.Moments.{HasLimits};
 ghost use Rattle.m5_reference.specs.Running.{StandsFor, IsReady, IsNamed, StaysReady, RoundsEnd};
@@ -12,29 +10,7 @@ use crate::limits::Limits;
 use crate::running::{Going, Running, take_turns};
 use m5_script::items::SiteName;
 use m5_source_site::measured::MeasuredProgram;
-use m5_terms::worlds::worlds_of_sites;
 use std::alloc::{AllocError, Global};
-
-/// Adds the sites of a session, in the order of their numbers.
-fn add_session(names: &mut Vec<SiteName>, session: u32) -> Result<(), AllocError>
-    ensures { OnOk result (names.new.items ≡ names.old.items ++ map (λ w. record { session = session; world = w }) site_worlds) }
-{
-    for world in worlds_of_sites() {
-        names.push(SiteName { session, world })?;
-    }
-    Ok(())
-}
-
-/// The sites of so many sessions, by number.
-pub fn all_sites(alloc: Global, sessions: u32) -> Result<Vec<SiteName>, AllocError>
-    ensures { IfOk result (λ v. v.items ≡ sites_of sessions) }
-{
-    let mut names = Vec::new(alloc);
-    for before in 0..sessions {
-        add_session(&mut names, before + 1)?;
-    }
-    Ok(names)
-}
 
 /// Rounds of turns of these sites, until one makes no deed. Each round but the last makes the
 /// history longer, so no memory holds more rounds than are counted here.

@@ -12,11 +12,12 @@ ghost use Rattle.m5_reference.specs.Reference.{IsReferenceRun};
 ghost use Rattle.m5_reference.specs.Running.{IsReady, StandsFor};
 
 use crate::limits::Limits;
-use crate::opening::open_sites;
-use crate::rounds::{all_sites, take_rounds};
+use crate::rounds::take_rounds;
 use crate::running::{Going, Running, take_turns};
 use m5_board::board::Board;
 use m5_script::script::Script;
+use m5_sites::names::all_sites;
+use m5_sites::opening::open_sites;
 use m5_source_site::measured::MeasuredProgram;
 use m5_terms::ask::{Act, End, Entries, Entry, History};
 use m5_typing::program::Program;

@@ -7,10 +7,10 @@ ghost use Rattle.m5_reference.specs.Moments.{HasLimits};
 ghost use Rattle.m5_reference.specs.Running.{StandsFor, IsReady, IsNamed, StaysReady, TurnEnds, TurnsEnd};
 
 use crate::limits::Limits;
-use crate::sites::{SessionSites, put_site, take_site};
 use crate::turn::{Turned, turn};
 use m5_board::board::Board;
 use m5_script::items::SiteName;
+use m5_sites::sites::{SessionSites, put_site, take_site};
 use m5_source_site::item::LinkItem;
 use m5_source_site::measured::MeasuredProgram;
 use m5_terms::ask::{Entries, Entry};

@@ -1,29 +1,29 @@
 //! One turn of a site.
 
-ghost use Rattle.std.specs.Prelude.{◌≡◌, ◌↔◌, length, IfOk, OnOk, IsTrue, Some};
+ghost use Rattle.std.specs.Prelude.{◌≡◌, length, IfOk, Some};
 ghost use Rattle.m5_terms.specs.Worlds.{IsSiteWorld};
-ghost use Rattle.m5_terms.specs.declared.ask.AnswerOf.TheVariants as answer;
 ghost use Rattle.m5_script.specs.Scenario.{Scenario};
 ghost use Rattle.m5_network.specs.Board.{answer_of};
 ghost use Rattle.m5_network.specs.Run.{Network};
-ghost use Rattle.m5_source_site.specs.ClosedSite.{HasRoom, IsClosedSite};
+ghost use Rattle.m5_source_site.specs.ClosedSite.{IsClosedSite};
 ghost use Rattle.m5_source_site.specs.Waiting.{resumed};
+ghost use Rattle.m5_sites.specs.ClosedSites.{IsClosedBoard};
 ghost use Rattle.m5_board.specs.Boards.{board_of, IsSession};
 ghost use Rattle.m5_reference.specs.Moments.{HasLimits};
-ghost use Rattle.m5_reference.specs.Ahead.{IsAhead, kept};
+ghost use Rattle.m5_reference.specs.Ahead.{IsAhead};
 ghost use Rattle.m5_reference.specs.Turning.{IsTurned, IsAskTurned};
-ghost use Rattle.m5_reference.specs.ClosedTurn.{IsClosedBoard, IsClosedTurned};
+ghost use Rattle.m5_reference.specs.ClosedTurn.{IsClosedTurned};
 
 use crate::limits::Limits;
 use crate::moment::{Moment, next_moment};
 use m5_board::board::{Answered, Board};
 use m5_script::items::SiteName;
-use m5_source_site::item::{LinkItem, SiteAnswer, SiteAsk};
+use m5_sites::resume::{is_nothing, keep, resume};
+use m5_source_site::item::{LinkItem, SiteAsk};
 use m5_source_site::measured::MeasuredProgram;
 use m5_source_site::resume::Waiting;
 use m5_source_site::site::Site;
-use m5_terms::ask::{Act, AnswerOf};
-use m5_terms::types::World;
+use m5_terms::ask::Act;
 use std::alloc::{AllocError, Global};
 
 /// A deed, with the site after it unless it has stopped and with what the history shows; nothing
@@ -33,46 +33,6 @@ pub enum Turned {
     Acts(Option<Site>, Act),
     Rests(Site),
     Wrong,
-}
-
-/// Memory is wanting where a site's numbers are too large to count on from, since no site that
-/// memory holds comes so far.
-fn check_room(site: &Site) -> Result<(), AllocError>
-    ensures { OnOk result (HasRoom site.now) }
-{
-    const ROOM: u64 = 1 << 62;
-    if site.steps() < ROOM && site.weight() < ROOM {
-        Ok(())
-    } else {
-        Err(AllocError)
-    }
-}
-
-fn is_nothing(reply: &SiteAnswer) -> bool
-    ensures { IsTrue result ↔ (reply.now ≡ answer.Nothing) }
-{
-    matches!(reply, AnswerOf::Nothing)
-}
-
-/// The site, unless it has stopped.
-fn keep(site: Site) -> Option<Site>
-    ensures { result ≡ kept site }
-{
-    if site.has_stopped() { None } else { Some(site) }
-}
-
-/// What the site does with the answer, if it is one to its ask.
-fn resume(
-    alloc: Global,
-    program: &MeasuredProgram<'_>,
-    here: World,
-    waiting: Waiting,
-    reply: SiteAnswer,
-) -> Result<Option<Site>, AllocError>
-    ensures { IfOk result (λ o. o ≡ resumed program.now here waiting.site waiting.wait reply) }
-{
-    check_room(&waiting.site)?;
-    waiting.resume(alloc, program, here, reply)
 }
 
 /// The turn of a site that asks.

@@ -12,4 +12,5 @@ pub mod script;
 mod trace;
 mod words;
 
-pub use trace::trace_text;
+pub use fields::{number, world};
+pub use trace::{put_last, put_line, trace_text};

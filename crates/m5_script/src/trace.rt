@@ -84,7 +84,8 @@ fn put_act(out: &mut Vec<u8>, act: &Act) -> Result<(), AllocError>
     }
 }
 
-fn put_line(alloc: Global, out: &mut Vec<u8>, entry: &Entry) -> Result<(), AllocError>
+/// Adds the line of an entry.
+pub fn put_line(alloc: Global, out: &mut Vec<u8>, entry: &Entry) -> Result<(), AllocError>
     ensures { OnOk result (out.new.items ≡ out.old.items ++ line_of entry.now) }
 {
     put_site(alloc, out, entry.session, entry.world)?;
@@ -94,7 +95,8 @@ fn put_line(alloc: Global, out: &mut Vec<u8>, entry: &Entry) -> Result<(), Alloc
     Ok(())
 }
 
-fn put_last(alloc: Global, out: &mut Vec<u8>, end: &End) -> Result<(), AllocError>
+/// Adds the words of a last line, without the byte that ends it.
+pub fn put_last(alloc: Global, out: &mut Vec<u8>, end: &End) -> Result<(), AllocError>
     ensures { OnOk result (out.new.items ≡ out.old.items ++ last_words end.now) }
 {
     match end {

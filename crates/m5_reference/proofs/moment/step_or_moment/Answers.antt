@@ -3,7 +3,7 @@ use Rattle.m5_terms.specs.Machine.{goes}
 use Rattle.m5_meaning.specs.Step.{site_next}
 use Rattle.m5_source_site.specs.ClosedSite.{IsClosedNext}
 use Rattle.m5_source_site.proofs.Closing.{stays_closed}
-use Rattle.m5_reference.proofs.Looks.{idle_asks, counted}
+use Rattle.m5_sites.proofs.Counted.{idle_asks, counted}
 use Rattle.m5_reference.proofs.moment.step_or_moment.Goals as goal
 
 pub returns-then-is_idle-clause-closed : goal.returns-then-is_idle-clause-closed

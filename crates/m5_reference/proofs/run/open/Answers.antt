@@ -2,7 +2,7 @@ use Rattle.std.proofs.Common.{ap, ◌∙◌}
 use Rattle.std.specs.Prelude.{replicate}
 use Rattle.m5_script.specs.Scenario.{Scenario}
 use Rattle.m5_reference.specs.Budget.{with_lesser_budget}
-use Rattle.m5_reference.specs.Opening.{sites_opened}
+use Rattle.m5_sites.specs.Opening.{sites_opened}
 use Rattle.m5_reference.proofs.OpenedRuns.{opens}
 use Rattle.m5_reference.proofs.run.open.Goals as goal
 

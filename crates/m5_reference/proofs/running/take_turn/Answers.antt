@@ -1,6 +1,6 @@
 use Rattle.std.proofs.Common.{◌≡◌, length, Some, None, refl, sym, subst, ◌∙◌}
 use Rattle.m5_reference.specs.Ahead.{IsAhead}
-use Rattle.m5_reference.specs.Sites.{site_at}
+use Rattle.m5_sites.specs.Sites.{site_at}
 use Rattle.m5_reference.proofs.TakenTurns.{skips, acts, rests, ready-after, ready-back}
 use Rattle.m5_reference.proofs.running.take_turn.Goals as goal
 

@@ -39,3 +39,7 @@ twice-at {A} s w x y f z v = by-session (z == s)
     by-session : (b : Bool) → (if b then at_world w y (at_place s w x f s) else (if b then at_world w x (f s) else f z)) v ≡ (if b then at_world w y (f s) else f z) v
     by-session true = ap (λ (a : A). if same_world v w then y else a) here ∙ by-world (same_world v w)
     by-session false = refl
+
+-- what is put where something was put before
+pub put-back : {A : Type 0} (s : ℕ) (w : World) (x y : A) (old mid new : ℕ → World → A) → mid ≡ at_place s w x old → new ≡ at_place s w y mid → new ≡ at_place s w y old
+put-back s w x y old mid new e h = h ∙ (ap (at_place s w y) e ∙ (λ i. λ z. λ v. twice-at s w x y old z v i))

@@ -2,7 +2,7 @@
 
 ghost use Rattle.std.specs.Prelude.{◌≡◌, replicate, Some, IfOk};
 ghost use Rattle.m5_network.specs.Opening.{opening_site, opening_threads};
-ghost use Rattle.m5_reference.specs.Opening.{sites_opened};
+ghost use Rattle.m5_sites.specs.Opening.{sites_opened};
 
 use crate::sites::SessionSites;
 use m5_source_site::measured::MeasuredProgram;

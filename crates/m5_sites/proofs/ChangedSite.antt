@@ -10,7 +10,7 @@ use Rattle.m5_terms.specs.Worlds.{IsSiteWorld}
 use Rattle.m5_terms.proofs.SiteWorlds.{is-real}
 use Rattle.m5_meaning.specs.Site.{Site}
 use Rattle.m5_network.specs.Board.{at_session, at_world}
-use Rattle.m5_reference.specs.Sites.{SessionSites, site_in, site_of_session, site_at, with_site_at}
+use Rattle.m5_sites.specs.Sites.{SessionSites, site_in, site_of_session, site_at, with_site_at}
 
 -- the place that is set, and the others
 at-place : (sites : List SessionSites) (k j : ℕ) (r : SessionSites) (w : World) → k < length sites → site_of_session (slice_get (slice_set sites k r) j) w ≡ (if j == k then site_in r w else site_of_session (slice_get sites j) w)

@@ -1,6 +1,6 @@
 use Rattle.std.proofs.Common.{◌-◌, ◌∙◌, sym, None, refl}
-use Rattle.m5_reference.proofs.ChangedSite.{of-session, in-site, changed}
-use Rattle.m5_reference.proofs.sites.take_site.Goals as goal
+use Rattle.m5_sites.proofs.ChangedSite.{of-session, in-site, changed}
+use Rattle.m5_sites.proofs.sites.take_site.Goals as goal
 
 pub returns-clause-taken : goal.returns-clause-taken
 returns-clause-taken c =

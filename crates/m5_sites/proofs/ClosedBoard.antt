@@ -14,7 +14,7 @@ use Rattle.m5_terms.specs.declared.ask.AskOf.TheVariants as ask
 use Rattle.m5_meaning.specs.Site.{Item}
 use Rattle.m5_network.specs.Board.{Board, Desk, Watch, Event, Trigger, Answered, at_session, link, with_link, posted, text_at, text_or_missing, text_or_empty, take_event, take_trigger, take_other, take_from, take_at, answer_of}
 use Rattle.m5_source_site.specs.ClosedSite.{IsClosedItem, IsClosedQuery, IsClosedReply}
-use Rattle.m5_reference.specs.ClosedTurn.{IsClosedBoard}
+use Rattle.m5_sites.specs.ClosedSites.{IsClosedBoard}
 
 abbrev AreClosed : Desk Item → Type 0
 AreClosed d = (v w : World) → All IsClosedItem (link d v w)

@@ -1,7 +1,7 @@
 use Rattle.std.proofs.Common.{Some, rules, of_calls}
 use Rattle.m5_network.specs.Opening.{opening_site, opening_threads}
-use Rattle.m5_reference.proofs.Eachs.{each-by}
-use Rattle.m5_reference.proofs.opening.open_session.Goals as goal
+use Rattle.m5_sites.proofs.Eachs.{each-by}
+use Rattle.m5_sites.proofs.opening.open_session.Goals as goal
 
 pub returns : goal.returns
 returns c =

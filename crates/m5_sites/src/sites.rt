@@ -3,7 +3,7 @@
 ghost use Rattle.std.specs.Prelude.{◌≡◌, ◌≤◌, length, None};
 ghost use Rattle.m5_terms.specs.PerWorld.{at, with_at};
 ghost use Rattle.m5_terms.specs.Worlds.{IsSiteWorld};
-ghost use Rattle.m5_reference.specs.Sites.{site_at, with_site_at};
+ghost use Rattle.m5_sites.specs.Sites.{site_at, with_site_at};
 
 use m5_script::items::SiteName;
 use m5_source_site::site::Site;
@@ -23,7 +23,7 @@ fn take_at(session: &mut SessionSites, world: World) -> Option<Site>
 }
 
 /// Takes a site out.
-pub(crate) fn take_site(sites: &mut Vec<SessionSites>, name: SiteName) -> Option<Site>
+pub fn take_site(sites: &mut Vec<SessionSites>, name: SiteName) -> Option<Site>
     requires session { (1 ≤ name.session) × (name.session ≤ length sites.old.items) }
     requires world { IsSiteWorld name.world }
     ensures taken { result ≡ site_at sites.old.items name.session name.world }
@@ -35,7 +35,7 @@ pub(crate) fn take_site(sites: &mut Vec<SessionSites>, name: SiteName) -> Option
 }
 
 /// Puts a site in its place, or none where it has stopped.
-pub(crate) fn put_site(sites: &mut Vec<SessionSites>, name: SiteName, site: Option<Site>)
+pub fn put_site(sites: &mut Vec<SessionSites>, name: SiteName, site: Option<Site>)
     requires session { (1 ≤ name.session) × (name.session ≤ length sites.old.items) }
     requires world { IsSiteWorld name.world }
     ensures put { site_at sites.new.items ≡ with_site_at name.session name.world site (site_at sites.old.items) }

@@ -1,5 +1,5 @@
 -- The sites of all sessions, of which those that have stopped are gone.
-use Rattle.std.specs.Prelude.{ℕ, zero, suc, List, Option, Some, None, slice_get}
+use Rattle.std.specs.Prelude.{ℕ, zero, suc, List, Option, Some, None, slice_get, if◌then◌else◌}
 use Rattle.m5_terms.specs.declared.types.World.{World}
 use Rattle.m5_terms.specs.declared.types.World.TheVariants.{Any}
 use Rattle.m5_terms.specs.declared.per_world.PerWorld.{PerWorld}
@@ -28,3 +28,7 @@ site_at sites (suc s) w = site_of_session (slice_get sites s) w
 -- the same sites, but for one
 abbrev pub with_site_at : ℕ → World → Option Site → (ℕ → World → Option Site) → ℕ → World → Option Site
 with_site_at s w x f = at_session s (at_world w x (f s)) f
+
+-- a site that has stopped is gone
+abbrev pub kept : Site → Option Site
+kept t = if t.stopped then None else Some t

@@ -1,5 +1,5 @@
 use Rattle.std.proofs.Common.{◌≡◌, arith}
-use Rattle.m5_reference.proofs.rounds.add_session.Goals as goal
+use Rattle.m5_sites.proofs.names.add_session.Goals as goal
 
 -- all worlds of the list are passed
 pub returns : goal.returns
