@@ -66,6 +66,13 @@ impl Cps {
         self.held_steps.count()
     }
 
+    /// All steps, by place.
+    pub fn steps(&self) -> &[Step]
+        ensures { result.now ≡ self.now.steps }
+    {
+        self.held_steps.as_slice()
+    }
+
     /// The step at a place where code begins.
     pub fn step(&self, place: usize) -> &Step
         requires { HasCode self.now place }

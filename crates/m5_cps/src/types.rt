@@ -83,6 +83,15 @@ impl Types {
         Ok(())
     }
 
+    /// The same types again, in memory of their own.
+    pub fn copy(&self, alloc: Global) -> Result<Types, AllocError>
+        ensures { IfOk result (λ t. t ≡ self.now) }
+    {
+        Ok(Types {
+            rows: Vec::from_slice(alloc, self.rows.as_slice())?,
+        })
+    }
+
     /// The outermost constructor of a type, with the numbers of its parts.
     pub fn row(&self, number: usize) -> TypeRow
         ensures is { row_type self.now result ≡ type_in self.now number }

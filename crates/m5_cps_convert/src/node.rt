@@ -115,15 +115,8 @@ fn emit_function(
     let head = head_of(walk, around, filled, &form)?;
     let pending = begin_closure(walk)?;
     let inside = in_block(around, Mode::Only(around.mode.world()));
-    let body = within(
-        alloc,
-        walk,
-        inside,
-        head.filled,
-        Goal::Tail(head.continuation),
-        head.binding,
-        first,
-    )?;
+    let tail = Goal::Tail(head.continuation);
+    let body = within(alloc, walk, inside, head.filled, tail, head.binding, first)?;
     let signature = signature_of(&mut walk.types, head.argument, head.written, body.ty)?;
     let entry = Entry::ByCall(around.mode, head.argument, signature.result);
     close_behind(walk, pending, entry);
@@ -191,15 +184,8 @@ fn emit_let(
 {
     let value = emit(alloc, walk, around, filled, Goal::Then, first)?;
     let inside = begin_let(walk, around, form, value)?;
-    within(
-        alloc,
-        walk,
-        around,
-        inside.filled,
-        goal,
-        inside.binding,
-        second,
-    )
+    let filled = inside.filled;
+    within(alloc, walk, around, filled, goal, inside.binding, second)
 }
 
 /// A form that is made of two values.
@@ -247,16 +233,9 @@ fn emit_body(
             let value = emit(alloc, walk, inside, body, Goal::Tail(waiting), node)?;
             close_behind(walk, pending, awaiting(Mode::Only(world), value.ty));
             let sent = Sent::Goal(address.filled);
-            go_or_send(
-                walk,
-                world,
-                value.ty,
-                sent,
-                address.slot,
-                continuation,
-                waiting,
-            )?;
-            Ok(value.ty)
+            let ty = value.ty;
+            go_or_send(walk, world, ty, sent, address.slot, continuation, waiting)?;
+            Ok(ty)
         }
     }
 }
