@@ -1,0 +1,11 @@
+pub mod Blocks
+pub mod Values
+pub mod Running
+pub mod Machine
+pub mod Moments
+pub mod Fits
+pub mod Limits
+pub mod Program
+pub mod Steps
+pub mod Table
+pub mod code

@@ -1,0 +1,2 @@
+-- What the data of the code stand for.
+pub mod TableCode
