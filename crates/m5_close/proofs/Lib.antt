@@ -1,0 +1,9 @@
+pub mod Slots
+pub mod Heads
+pub mod Made
+pub mod Asked
+pub mod Runs
+pub mod Entering
+pub mod Whole
+pub mod Played
+pub mod Limited
