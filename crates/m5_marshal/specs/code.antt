@@ -1,0 +1,6 @@
+-- What the code keeps while it reads a message.
+pub mod Finds
+pub mod Ids
+pub mod Opened
+pub mod Adding
+pub mod Tail
