@@ -53,13 +53,13 @@ line() {
     function trimmed(part) { gsub(/[ \t\n]+/, " ", part); sub(/^ /, "", part); sub(/ $/, "", part); return part }' "$1"
 }
 
-for folder in examples examples/tutorial examples/drawn examples/refused; do
+for folder in examples examples/tutorial examples/generic examples/drawn examples/refused; do
   printf '%s**%s/**\n\n| Example | Shows | Primitives and forms |\n|---|---|---|\n' "${parted-}" "$folder"
   parted=$'\n'
   for program in "$folder"/*.ml5; do line "$program" 2>> "$missing"; done
 done
 for folder in examples/*/; do
-  case $folder in examples/tutorial/ | examples/drawn/ | examples/refused/) continue ;; esac
+  case $folder in examples/tutorial/ | examples/generic/ | examples/drawn/ | examples/refused/) continue ;; esac
   ls "$folder"*.ml5 > /dev/null 2>&1 && echo "examples-index: $folder has programs, and no table" >> "$missing"
 done
 cat "$missing" >&2

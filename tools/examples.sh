@@ -1,7 +1,8 @@
 #!/usr/bin/env bash
 # Runs every example and every row of the tables with the built program, and compares what is written and the status.
 # An example is NAME.ml5 with NAME.script beside it, and NAME.trace (job run, or the job that NAME.job names) or NAME.refusal;
-# its status is the one that goes with its last line. examples/tables/README.md says how a table is written.
+# its status is the one that goes with its last line. Where NAME.expanded stands beside it, that is what `expand` writes of the
+# program, and the job is done on it. examples/tables/README.md says how a table is written.
 set -u
 cd "$(dirname "$0")/.." || exit 1
 program=crates/ml5/out/ml5
@@ -26,11 +27,16 @@ status_of() {
 
 # Prints how an example differs, or nothing.
 compare() {
-  local name=$1 job=run wanted=$1.trace status
+  local name=$1 source=$1.ml5 job=run wanted=$1.trace status
   [ -e "$name.job" ] && job=$(cat "$name.job")
   [ -e "$wanted" ] || wanted=$name.refusal
   [ -e "$wanted" ] || { echo "$name has neither trace nor refusal"; return; }
-  { cat "$name.ml5"; printf '%%%%\n'; [ -e "$name.script" ] && cat "$name.script"; } | "$program" "$job" > "$written" 2>/dev/null
+  if [ -e "$name.expanded" ]; then
+    source=$name.expanded
+    "$program" expand < "$name.ml5" > "$written" 2>/dev/null || echo "$name is not expanded"
+    cmp -s "$written" "$source" || echo "$name expands otherwise than to $source"
+  fi
+  { cat "$source"; printf '%%%%\n'; [ -e "$name.script" ] && cat "$name.script"; } | "$program" "$job" > "$written" 2>/dev/null
   status=${PIPESTATUS[1]}
   cmp -s "$written" "$wanted" || echo "$name differs from $wanted"
   [ "$status" = "$(status_of "$wanted")" ] || echo "$name ends with status $status, and not $(status_of "$wanted")"

@@ -2,4 +2,6 @@ mod Completing
 mod Ends
 mod Finishing
 mod ReferenceDue
+mod Refusing
 mod Silent
+mod Written

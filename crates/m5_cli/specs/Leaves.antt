@@ -3,6 +3,7 @@ use Rattle.std.specs.Prelude.{◌≡◌, ◌<◌, ◌⊎◌, ℕ, List, length, 
 use Rattle.std.specs.Io.KnownBytes.{Appends, Keeps}
 use Rattle.std.specs.declared.option.Option.{Option}
 use Rattle.m5_cli.specs.Due.{Due}
+use Rattle.m5_cli.specs.Expanding.{HasExpansion}
 use Rattle.m5_cli.specs.Taken.{HasProgram, HasScript}
 use Rattle.m5_cli.specs.declared.words.Job.{Job}
 use Rattle.m5_cli.specs.declared.words.Job.TheVariants as job
@@ -28,11 +29,12 @@ Leaves job old new input status.ReadFault = Keeps old new
 Leaves job old new input status.WriteFault = (meant : Status) × (text : List ℕ) × Due meant job input text × TookSome old new text
 Leaves job old new input s = TookDue job old new input s
 
--- an input that a job takes: its program is accepted, and its script too where the job reads one
+-- an input that a job takes: its program is accepted, its script too where the job reads one, and for `expand` its expansion
 abbrev pub Takes : Job → List ℕ → Type 0
 Takes job.Check input = HasProgram input
 Takes job.Run input = HasScript input
 Takes job.Ref input = HasScript input
+Takes job.Expand input = HasExpansion input
 
 -- an input that its job takes is answered with the job's output, if no stream fails and memory lasts; `run` may say that
 -- it is not of the first form

@@ -1,5 +1,6 @@
 pub mod Cases
 pub mod Due
+pub mod Expanding
 pub mod First
 pub mod Headline
 pub mod Input

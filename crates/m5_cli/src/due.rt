@@ -6,11 +6,12 @@ ghost use Rattle.m5_tree.specs.declared.tree.Tree.{Tree as TreeOf};
 ghost use Rattle.m5_typing.specs.Program.{ProgramTerm};
 ghost use Rattle.m5_front.specs.Refusal.{HasFault};
 ghost use Rattle.m5_cli.specs.Cases.{IsBadScript};
-ghost use Rattle.m5_cli.specs.Due.{Due};
+ghost use Rattle.m5_cli.specs.Due.{Due, ReadsProgram};
 ghost use Rattle.m5_cli.specs.Input.{parts_of};
 ghost use Rattle.m5_cli.specs.Taken.{Accepts, SaysScript, input_limit};
 
 use crate::answer::Answer;
+use crate::expand::expanded;
 use crate::first::first_trace;
 use crate::input::split;
 use crate::reference::reference_trace;
@@ -25,7 +26,9 @@ use m5_terms::text::Text;
 use std::alloc::{AllocError, Global};
 
 /// What is due for a refused program text.
+#[tactic(auto, using(crate::proofs::Refusing::refused_due))]
 fn refused(alloc: Global, job: Job, input: &[u8], refusal: Refusal) -> Result<Answer, AllocError>
+    requires reads { ReadsProgram job }
     requires short { length input.now ≤ input_limit }
     requires cause { HasFault (parts_of input.now).program refusal.fault refusal.place }
     requires not_accepted { (tree : TreeOf) (raw : RawTerm) (program : ProgramTerm) → Accepts input.now tree raw program → ⊥ }
@@ -132,9 +135,10 @@ fn reference(
     }
 }
 
-/// What a job owes for an input.
-pub(crate) fn due(alloc: Global, job: Job, input: &[u8]) -> Result<Answer, AllocError>
-    requires { length input.now ≤ input_limit }
+/// What a job that reads the program text as it stands owes for an input.
+fn program_due(alloc: Global, job: Job, input: &[u8]) -> Result<Answer, AllocError>
+    requires reads { ReadsProgram job }
+    requires short { length input.now ≤ input_limit }
     ensures { IfOk result (λ answer. Due answer.status job input.now answer.text) }
 {
     let (text, script) = split(input);
@@ -147,5 +151,19 @@ pub(crate) fn due(alloc: Global, job: Job, input: &[u8]) -> Result<Answer, Alloc
         Job::Check => checked(alloc, input, &accepted),
         Job::Run => run(alloc, input, &accepted, script),
         Job::Ref => reference(alloc, input, &accepted, script),
+        Job::Expand => unreachable!(),
+    }
+}
+
+/// What a job owes for an input.
+pub(crate) fn due(alloc: Global, job: Job, input: &[u8]) -> Result<Answer, AllocError>
+    requires { length input.now ≤ input_limit }
+    ensures { IfOk result (λ answer. Due answer.status job input.now answer.text) }
+{
+    match job {
+        Job::Check => program_due(alloc, Job::Check, input),
+        Job::Run => program_due(alloc, Job::Run, input),
+        Job::Ref => program_due(alloc, Job::Ref, input),
+        Job::Expand => expanded(alloc, input),
     }
 }

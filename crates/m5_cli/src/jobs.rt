@@ -54,12 +54,15 @@ fn answer<K: Sink>(alloc: Global, job: Job, input: &[u8], sink: &mut K) -> Statu
 /// `check` reads a program, and writes that it is accepted. `run` and `ref` read a program and a script, and write the trace
 /// of the program's run: `run` of a program and a script of the first form, `ref` of any, by the meaning itself, each site
 /// within the lesser of the script's steps and 5,000. Where a trace has a stop line the answer is `Stopped`, else `Rest`.
+/// `expand` reads a program text, and writes its expansion, where that is accepted, and the input from its dividing line on as it
+/// is.
 ///
 /// Where the input has more than 262,144 bytes the answer is `TooLong`, where the program text is refused `BadText` or
 /// `BadTypes`, where `run` or `ref` refuses the script `BadScript`, and where `run` is given another form `Unbuilt`, each
 /// with its line; `ReadFault` and `WriteFault` come with a failure of the source and the sink, and `NoMemory` where memory
-/// ran out. So an accepted program, with a script where the job reads one, is answered with the job's output, or by a
-/// fault, `NoMemory` or, of `run`, `Unbuilt`.
+/// ran out. For `expand` a text is refused with bad bytes and numbers, without an expansion, and with one that is refused. So an
+/// accepted program, with a script where the job reads one, is answered with the job's output, or by a fault, `NoMemory` or, of
+/// `run`, `Unbuilt`.
 pub fn plain<S: Source, K: Sink>(alloc: Global, job: Job, source: &mut S, sink: &mut K) -> Status
     ensures { Headline job
         (record { left = S.left source.old; held = K.held sink.old; read_faults = S.faults source.old; write_faults = K.faults sink.old })

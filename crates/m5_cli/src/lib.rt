@@ -3,6 +3,7 @@
 
 mod answer;
 mod due;
+mod expand;
 mod first;
 mod input;
 mod jobs;

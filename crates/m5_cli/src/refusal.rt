@@ -50,7 +50,7 @@ fn put_fault(out: &mut Vec<u8>, fault: Fault) -> Result<(), AllocError>
 }
 
 /// Adds line and column.
-fn put_place(alloc: Global, out: &mut Vec<u8>, place: Place) -> Result<(), AllocError>
+pub(crate) fn put_place(alloc: Global, out: &mut Vec<u8>, place: Place) -> Result<(), AllocError>
     ensures { OnOk result (out.new.items ≡ out.old.items ++ place_words place) }
 {
     put_number(alloc, out, u64::from(place.line))?;

@@ -15,6 +15,8 @@ pub enum Job {
     Run,
     /// Run any program by a script as its meaning says, by substitution, and write the trace.
     Ref,
+    /// Write out the instances of a program's generic declarations.
+    Expand,
 }
 
 /// The words after the program's name, which contracts see as a list of texts.
@@ -62,6 +64,7 @@ pub fn read_words(words: &Words) -> Option<Job>
         [word] if word.as_str() == "check" => Some(Job::Check),
         [word] if word.as_str() == "run" => Some(Job::Run),
         [word] if word.as_str() == "ref" => Some(Job::Ref),
+        [word] if word.as_str() == "expand" => Some(Job::Expand),
         _ => None,
     }
 }

@@ -10,7 +10,7 @@ use std::test::Fail;
 const HI: &[u8] = b"extern val say : string -> unit @ home\nmain = say \"hi\"\n%%\nsessions 1\n";
 
 /// A job, the read that fails and the write that fails, none being 0, the status, and what the sink then holds.
-const CASES: [(Job, u64, u64, Status, &[u8]); 9] = [
+const CASES: [(Job, u64, u64, Status, &[u8]); 12] = [
     (Job::Run, 0, 0, Status::Rest, b"1 home say \"hi\"\nrest\n"),
     (Job::Ref, 0, 0, Status::Rest, b"1 home say \"hi\"\nrest\n"),
     (Job::Check, 0, 0, Status::Rest, b"accepted\n"),
@@ -20,6 +20,9 @@ const CASES: [(Job, u64, u64, Status, &[u8]); 9] = [
     (Job::Run, 0, 2, Status::WriteFault, b"1 home say \"hi\"\n"),
     (Job::Ref, 0, 1, Status::WriteFault, b""),
     (Job::Check, 0, 1, Status::WriteFault, b""),
+    (Job::Expand, 0, 0, Status::Rest, HI),
+    (Job::Expand, 2, 0, Status::ReadFault, b""),
+    (Job::Expand, 0, 2, Status::WriteFault, b"extern val say :"),
 ];
 
 /// The status of a job and what the sink then holds, for the input and the output in pieces of 16 bytes.
@@ -54,7 +57,10 @@ fn come_after_the_words(rt: HostRuntime) -> Result<(), Fail> {
     let mut words = Words::make(alloc);
     let status = ml5(&rt, alloc, &words, &mut source, &mut sink, &OpenGate);
     assert_eq!(rt; status, Status::Usage);
-    assert_eq!(rt; sink.held(), b"usage: ml5 check, run, ref\n".as_slice());
+    assert_eq!(rt;
+        sink.held(),
+        b"usage: ml5 check, run, ref, expand\n".as_slice()
+    );
     words.push("check")?;
     let status = ml5(&rt, alloc, &words, &mut source, &mut sink, &OpenGate);
     assert_eq!(rt; status, Status::ReadFault);

@@ -1,6 +1,6 @@
 use Rattle.std.proofs.Common.{ℕ, List, sym, subst}
 use Rattle.m5_front.specs.Reading.{IsAccepted, IsNoRefusal}
-use Rattle.m5_cli.proofs.due.due.Goals as goal
+use Rattle.m5_cli.proofs.due.program_due.Goals as goal
 
 -- what is refused is not accepted
 pub refused-requires-clause-not_accepted : goal.refused-requires-clause-not_accepted
