@@ -6,7 +6,7 @@ pub mod end;
 mod expression;
 mod forms;
 pub mod laws;
-mod meaning;
+pub mod meaning;
 mod places;
 pub mod resolve;
 mod tuple;

@@ -9,7 +9,7 @@ use m5_terms::types::Prim;
 
 /// What a name means: a local or a valid variable, a declared function, each by its number, or a primitive.
 #[derive(Clone, Copy)]
-pub(crate) enum Meaning {
+pub enum Meaning {
     Var(u32),
     Valid(u32),
     Glob(u32),
