@@ -28,7 +28,7 @@ use Rattle.m5_cps_typing.proofs.Found.{found}
 slot_type_inj : (m k : Mode) (T U : SlotType) → Some (slot m T) ≡ Some (slot k U) → T ≡ U
 slot_type_inj m k T U e = cc
 
-known_fill : (S : Slots) (K : Kinds) (n : ℕ) (m : Mode) (T U : SlotType) → U ≡ T → Known S K → Known (fill n m T S) (put n U K)
+pub known_fill : (S : Slots) (K : Kinds) (n : ℕ) (m : Mode) (T U : SlotType) → U ≡ T → Known S K → Known (fill n m T S) (put n U K)
 known_fill S K n m T U q h l k V = at (l == n)
   where
     at : (t : Bool) → (if t then Some (slot m T) else S l) ≡ Some (slot k V) → (if t then U else K l) ≡ V
@@ -41,10 +41,10 @@ needs_known S K x m T h d = h x d.0 T d.1
 part_known : (S : Slots) (K : Kinds) (x : ℕ) (m : Mode) (A : TypeExpression) → Known S K → Needs S x m (of A) → source_type (K x) ≡ A
 part_known S K x m A h d = ap source_type (needs_known S K x m (of A) h d)
 
-captures_known : (b : World) (m : Mode) (S R : Slots) (K : Kinds) → Captures b m S R → Known S K → Known R K
+pub captures_known : (b : World) (m : Mode) (S R : Slots) (K : Kinds) → Captures b m S R → Known S K → Known R K
 captures_known b m S R K c h l k T e = needs_known S K l k T h (c l k T e).0
 
-entry_known : (y : Entry) (n : ℕ) (R : Slots) (K : Kinds) → Known R K → Known (entry_slots y n R) (entry_kinds y n K)
+pub entry_known : (y : Entry) (n : ℕ) (R : Slots) (K : Kinds) → Known R K → Known (entry_slots y n R) (entry_kinds y n K)
 entry_known (by_value m T) n R K h = known_fill _ _ (suc n) (only (world_of m)) T T refl (known_fill R K n (only (world_of m)) (takes T) (takes T) refl h)
 entry_known (by_call m A B) n R K h = known_fill _ _ (suc (suc n)) (only (world_of m)) (takes (of B)) (takes (of B)) refl (known_fill _ _ (suc n) (only (world_of m)) (of A) (of A) refl (known_fill R K n (only (world_of m)) (of (function A B)) (of (function A B)) refl h))
 
@@ -94,7 +94,7 @@ two_known (binary_form.Leta x) m p st = absurd st
 two_known (binary_form.Lets x) m p st = absurd st
 
 -- a straight form's type is the one that is computed
-straight_known : (E : Setting) (b : World) (S : Slots) (K : Kinds) (f : Straight) (P : Mode → SlotType → Type 0) → StraightFits E b S f P → Known S K → (m : Mode) × (T : SlotType) × P m T × (straight_type E b K f ≡ T)
+pub straight_known : (E : Setting) (b : World) (S : Slots) (K : Kinds) (f : Straight) (P : Mode → SlotType → Type 0) → StraightFits E b S f P → Known S K → (m : Mode) × (T : SlotType) × P m T × (straight_type E b K f ≡ T)
 straight_known E b S K (constant f) P d h = (d.0, of d.1, d.4, ap of (leaf_known E d.0 b f d.1 d.2 d.3))
 straight_known E b S K (one f x) P d h =
     (d.0, of (unary_rule f (world_of d.0) d.1).whole, d.6, ap of (ap (unary_whole f b) (part_known S K x (part_mode f d.0) (unary_rule f (world_of d.0) d.1).part h d.4) ∙ one_known f d.0 d.1 b d.2 d.3 d.5))
