@@ -6,5 +6,3 @@ pub mod gate;
 pub mod sink;
 pub mod source;
 pub mod standard;
-#[cfg(test)]
-mod tests;

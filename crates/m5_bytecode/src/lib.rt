@@ -9,8 +9,6 @@ mod lengths;
 mod lines;
 mod putting;
 mod steps;
-#[cfg(test)]
-mod tests;
 mod words;
 
 pub use decoding::decode;

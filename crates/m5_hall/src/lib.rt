@@ -15,6 +15,3 @@ pub use kept::Kept;
 pub use mine::{Drawn, Mine};
 pub use pass::Pass;
 pub use turn::Turn;
-
-#[cfg(test)]
-mod tests;

@@ -6,8 +6,6 @@ mod input;
 pub mod js;
 mod printing;
 mod reading;
-#[cfg(test)]
-mod tests;
 mod words;
 
 pub use printing::print;

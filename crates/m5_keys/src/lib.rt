@@ -2,6 +2,4 @@
 #![tactic(auto)]
 
 pub mod keys;
-#[cfg(test)]
-mod tests;
 pub mod watch;

@@ -18,6 +18,4 @@ mod operand;
 mod primitive;
 pub mod run;
 pub mod step;
-#[cfg(test)]
-mod tests;
 mod texts;

@@ -3,5 +3,3 @@
 
 pub mod page;
 pub mod row;
-#[cfg(test)]
-mod tests;

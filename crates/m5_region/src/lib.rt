@@ -11,7 +11,5 @@ pub mod out;
 pub mod queue;
 pub mod region;
 pub mod slots;
-#[cfg(test)]
-mod tests;
 mod units;
 pub mod value;

@@ -5,9 +5,6 @@ ghost use Rattle.std.specs.Prelude.{◌≡◌, ◌<◌, length};
 ghost use Rattle.m5_machine.specs.Closure.{IsSound};
 ghost use Rattle.m5_machine.specs.Run.{run, OutFits};
 
-#[cfg(test)]
-mod tests;
-
 use m5_bytecode::code::Code;
 use m5_machine::run::run_front;
 use m5_region::bench::Bench;

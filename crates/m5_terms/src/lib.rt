@@ -23,8 +23,6 @@ pub mod substitute;
 pub mod table;
 pub mod taken;
 pub mod term;
-#[cfg(test)]
-mod tests;
 pub mod text;
 pub mod thread;
 pub mod types;

@@ -1,7 +1,7 @@
 //! Codes printed and read, and texts that are no code's.
 
-use crate::js::Js;
-use crate::{JsEnd, print, read};
+use m5_js::js::Js;
+use m5_js::{JsEnd, print, read};
 use m5_machine::blocks::NO_BLOCK;
 use m5_machine::link::link;
 use m5_machine::listed::{Operands, TextBytes};

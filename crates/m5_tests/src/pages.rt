@@ -1,6 +1,6 @@
 //! What a page answers after texts and handlers are set.
 
-use crate::page::Page;
+use m5_page::page::Page;
 use m5_terms::text::Text;
 use std::test::Fail;
 

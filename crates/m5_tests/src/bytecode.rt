@@ -1,7 +1,7 @@
 //! A code made, spelled and read, and bytes that are no code's.
 
-use crate::code::Code;
-use crate::{CodeEnd, decode, encode, listing};
+use m5_bytecode::code::Code;
+use m5_bytecode::{CodeEnd, decode, encode, listing};
 use m5_machine::blocks::NO_BLOCK;
 use m5_machine::link::link;
 use m5_machine::listed::TextBytes;

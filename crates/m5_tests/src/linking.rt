@@ -1,7 +1,7 @@
 //! Steps that are blocks, and steps that are not.
 
-use crate::link::link;
-use crate::step::Step;
+use m5_machine::link::link;
+use m5_machine::step::Step;
 use std::test::*;
 
 #[test]

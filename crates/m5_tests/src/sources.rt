@@ -1,8 +1,8 @@
 //! Reading and writing in pieces, with ample memory and with failures at chosen calls.
 
-use crate::bytes::{ReadEnd, read_all, write_all};
-use crate::sink::MemSink;
-use crate::source::MemSource;
+use m5_base::bytes::{ReadEnd, read_all, write_all};
+use m5_base::sink::MemSink;
+use m5_base::source::MemSource;
 use std::test::Fail;
 
 #[test]

@@ -1,7 +1,7 @@
 //! What a store answers after writes and watches.
 
-use crate::keys::Keys;
-use crate::watch::Watcher;
+use m5_keys::keys::Keys;
+use m5_keys::watch::Watcher;
 use m5_terms::text::Text;
 use std::test::Fail;
 

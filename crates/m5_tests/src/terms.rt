@@ -3,19 +3,19 @@
 ghost use Rattle.std.specs.Prelude.{◌≡◌};
 ghost use Rattle.m5_terms.specs.CountsDown.{counts, less_one, sooner, at_zero, no_later, by_two_matches, by_two_is_met, takes};
 
-use crate::ask::{Answer, Ask, Numbers};
-use crate::form::{BinaryForm, LeafForm, UnaryForm};
-use crate::listed::Listed;
-use crate::matching;
-use crate::node::{Node, NodeBox};
-use crate::opened::{LeafView, Opened};
-use crate::primitives::extern_of;
-use crate::seal::seal_of;
-use crate::size::size_of;
-use crate::substitute::substitute;
-use crate::text::Text;
-use crate::thread::{Focus, Frame, Frames, Thread};
-use crate::types::{Prim, Shape, Ty, World, is_same};
+use m5_terms::ask::{Answer, Ask, Numbers};
+use m5_terms::form::{BinaryForm, LeafForm, UnaryForm};
+use m5_terms::listed::Listed;
+use m5_terms::matching;
+use m5_terms::node::{Node, NodeBox};
+use m5_terms::opened::{LeafView, Opened};
+use m5_terms::primitives::extern_of;
+use m5_terms::seal::seal_of;
+use m5_terms::size::size_of;
+use m5_terms::substitute::substitute;
+use m5_terms::text::Text;
+use m5_terms::thread::{Focus, Frame, Frames, Thread};
+use m5_terms::types::{Prim, Shape, Ty, World, is_same};
 use std::test::Fail;
 
 fn is_unit(node: &Node) -> bool {

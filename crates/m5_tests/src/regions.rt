@@ -1,9 +1,9 @@
 //! Units counted and laid out, and the room of the lists beside a region.
 
-use crate::bench::Bench;
-use crate::queue::Ready;
-use crate::region::Region;
-use crate::value::Value;
+use m5_region::bench::Bench;
+use m5_region::queue::Ready;
+use m5_region::region::Region;
+use m5_region::value::Value;
 use std::test::*;
 
 #[test]

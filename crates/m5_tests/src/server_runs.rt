@@ -3,7 +3,6 @@
 ghost use Rattle.std.specs.Prelude.{◌≡◌, ◌≤◌};
 ghost use Rattle.m5_region.specs.Bench.{fresh_bench};
 
-use crate::run_server;
 use m5_bytecode::code::Code;
 use m5_machine::closure::entry;
 use m5_machine::link::link;
@@ -13,6 +12,7 @@ use m5_region::bench::Bench;
 use m5_region::out::Out;
 use m5_region::queue::Ready;
 use m5_region::value::{Ref, Value};
+use m5_server_vm::run_server;
 use std::alloc::Global;
 use std::test::*;
 
