@@ -211,7 +211,7 @@ for tool in draw.sh explain.sh; do
   count "$([ "$status" = 0 ] && [ ! -s "$work/err" ] && grep -q "^tools/$tool " "$work/out" && echo yes)" "$tool --help does not help"
 done
 refuses 'usage: tools/pictures.sh, or tools/pictures.sh --write' pictures.sh all
-for tool in tutorial.sh check-editors.sh test-tools.sh; do refuses "usage: tools/$tool" "$tool" all; done
+for tool in tutorial.sh check-editors.sh test-tools.sh js-check.sh; do refuses "usage: tools/$tool" "$tool" all; done
 
 echo "test-tools: $passed passed, $failed failed"
 [ "$failed" -eq 0 ]
