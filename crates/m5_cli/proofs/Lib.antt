@@ -1,7 +1,12 @@
 mod Completing
 mod Ends
 mod Finishing
+mod LikePrograms
+mod LikeReading
+mod Likeness
 mod ReferenceDue
 mod Refusing
+mod ShownLines
+mod ShownParts
 mod Silent
 mod Written

@@ -18,7 +18,7 @@ use Rattle.m5_poly.specs.declared.end.PolyEnd.{PolyEnd}
 use Rattle.m5_poly.specs.declared.end.PolyEnd.TheVariants as end
 use Rattle.m5_cli.specs.Input.{parts_of}
 use Rattle.m5_cli.specs.Refusal.{place_words, refusal_line, status_of}
-use Rattle.m5_cli.specs.Taken.{input_limit}
+use Rattle.m5_cli.specs.Taken.{AcceptsAs, input_limit}
 use Rattle.m5_cli.specs.declared.status.Status.{Status}
 use Rattle.m5_cli.specs.declared.status.Status.TheVariants as status
 
@@ -55,11 +55,13 @@ pub record HasExpansion (input : List ℕ) : Type 0 where
   pub program : ProgramTerm
   pub accepted : AreAccepted out tree raw program
 
--- the expansion as a text, which lexes back to its tokens, and then the input from its dividing line on
+-- the expansion as a text, which lexes back to its tokens, and then the input from its dividing line on; all that, its length
+-- aside, is an input whose program text is accepted again, as the same program
 pub record IsExpansion (input text : List ℕ) : Type 0 where
   pub given : HasExpansion input
   pub written : text ≡ shown (tokens_of given.out.tokens) ++ from_divider input
-  pub again : LexesBack (shown (tokens_of given.out.tokens)) (tokens_of given.out.tokens)
+  pub lexes : LexesBack (shown (tokens_of given.out.tokens)) (tokens_of given.out.tokens)
+  pub again : AcceptsAs text given.program
 
 -- a bad byte or number, which is looked for in the program text before its expansion
 abbrev pub IsLexical : List ℕ → Fault → Place → Type 0

@@ -16,6 +16,12 @@ input_limit = 262144
 abbrev pub Accepts : List ℕ → Tree → RawTerm → ProgramTerm → Type 0
 Accepts input tree raw program = IsAccepted (parts_of input).program tree raw program
 
+-- the program text of an input is accepted, as this typed program
+pub record AcceptsAs (input : List ℕ) (program : ProgramTerm) : Type 0 where
+  pub tree : Tree
+  pub raw : RawTerm
+  pub accepted : Accepts input tree raw program
+
 -- the script text of an input says this
 abbrev pub SaysScript : List ℕ → Scenario → Type 0
 SaysScript input scenario = script_of (parts_of input).script ≡ Ok scenario
