@@ -4,12 +4,13 @@ use Rattle.std.specs.List.{AllZip, AllByRecursion as Each}
 use Rattle.m5_terms.specs.Substitution.{among}
 use Rattle.m5_terms.specs.Primitives.{primitive_world}
 use Rattle.m5_terms.specs.declared.types.World.{World}
+use Rattle.m5_terms.specs.declared.types.World.TheVariants.{Home, Server, Panel, Any}
 use Rattle.m5_terms.specs.declared.types.Primitive.{Primitive}
 use Rattle.m5_terms.specs.declared.form.LeafForm.{LeafForm}
 use Rattle.m5_terms.specs.declared.form.LeafForm.TheVariants as leaf_form
 use Rattle.m5_typing.specs.Context.{Setting}
 use Rattle.m5_cps_typing.specs.Rows.{Kinds}
-use Rattle.m5_cps.specs.Entries.{Entry, by_value, by_call, only}
+use Rattle.m5_cps.specs.Entries.{Entry, by_value, by_call, only, everywhere}
 use Rattle.m5_cps.specs.Blocks.{Code, constant, ask}
 use Rattle.m5_cps.specs.Blocks as source
 use Rattle.m5_cps.specs.Values.{atom, closed, enter, call, put}
@@ -25,16 +26,29 @@ use Rattle.m5_flat.specs.Values as flat
 use Rattle.m5_flat.specs.Running.{with_block, enter_block, call_block, entered_by, called_by, resolved, started}
 use Rattle.m5_flat.specs.Running as flat_running
 use Rattle.m5_flat.specs.Fits.{IsPlain}
-use Rattle.m5_close.specs.Close.{no_kinds, free, anew, IsMade, IsBlockOf, IsFunction, IsClosed, asking_block}
+use Rattle.m5_close.specs.Close.{no_kinds, free, anew, IsMade, IsBlockOf, IsFunction, IsDeclared, declared_entry, IsClosed, asking_block}
 use Rattle.m5_close.specs.Reading.{Reads, ReadsThread, ReadsSite, EmptyFrom}
 use Rattle.m5_close.proofs.Slots.{Environment, fill, begins, free_has, free_used}
 use Rattle.m5_close.proofs.Heads.{OptionReads, RanReads, by_heads}
 use Rattle.m5_close.proofs.Runs.{runs}
 
-each_at : {A : Type 0} (P : A → Type 0) (xs : List A) (i : ℕ) (x : A) → Each P xs → slice_get xs i ≡ Some x → P x
+pub each_at : {A : Type 0} (P : A → Type 0) (xs : List A) (i : ℕ) (x : A) → Each P xs → slice_get xs i ≡ Some x → P x
 each_at P [] i x h e = absurd (cc (e))
 each_at P (y ∷ xs) zero x h e = let q : y ≡ x = cc (e) in subst P q h.0
 each_at P (y ∷ xs) (suc i) x h e = each_at P xs i x h.1 e
+
+-- a block that is called, not entered with a value alone
+abbrev IsCalled : Entry → Type 0
+IsCalled (by_call m A D) = Unit {0}
+IsCalled (by_value m T) = ⊥
+
+declared_called : (y : Entry) → program.IsFunction y → IsCalled (declared_entry y)
+declared_called (by_call (only Home) A D) h = tt
+declared_called (by_call (only Server) A D) h = tt
+declared_called (by_call (only Panel) A D) h = tt
+declared_called (by_call (only Any) A D) h = tt
+declared_called (by_call everywhere A D) h = tt
+declared_called (by_value m T) h = absurd h
 
 module _ (E : Setting) (B : Blocks) (L : List ℕ) where
   -- both begin a block, of which one is made of the other
@@ -86,21 +100,18 @@ module _ (E : Setting) (B : Blocks) (L : List ℕ) where
       called_begins 0 0 [] σ cps_running.no_values refl b (closed (under i 0) σ) x (atom f) z (e, refl, ef) q w τ c d j l o md (λ h u lt. absurd (omega (arith, lt)))
 
   -- a function is not entered with a value alone
-  not_value : (i : ℕ) (σ : ℕ → flat.Value) (x : flat.Value) (b : Block) → slice_get B.table i ≡ Some b → program.IsFunction b.entry → Both (entered_by B (closed (under i 0) σ) x) None
+  not_value : (i : ℕ) (σ : ℕ → flat.Value) (x : flat.Value) (b : Block) → slice_get B.table i ≡ Some b → IsCalled b.entry → Both (entered_by B (closed (under i 0) σ) x) None
   not_value i σ x b e h = subst (λ o. Both (with_block o (enter_block i 0 σ x)) None) (sym e) (by_entry b.entry h)
     where
-      by_entry : (y : Entry) → program.IsFunction y → Both (enter_block i 0 σ x y b.code) None
+      by_entry : (y : Entry) → IsCalled y → Both (enter_block i 0 σ x y b.code) None
       by_entry (by_call m A D) h = tt
       by_entry (by_value m T) h = absurd h
 
-  abbrev IsBlockAt : ℕ → source.Block → Type 0
-  IsBlockAt i b = IsBlockOf E B L i b.entry no_kinds 0 b.code
-
-  function_block : (is : List ℕ) (cs : List source.Block) (f i : ℕ) → AllZip IsBlockAt is cs → slice_get is f ≡ Some i → (b : source.Block) × (slice_get cs f ≡ Some b) × IsBlockAt i b
+  pub function_block : (is : List ℕ) (cs : List source.Block) (f i : ℕ) → AllZip (IsDeclared E B L) is cs → slice_get is f ≡ Some i → (b : source.Block) × (slice_get cs f ≡ Some b) × IsDeclared E B L i b
   function_block [] [] f i h e = absurd (cc (e))
   function_block [] (c ∷ cs) f i h e = absurd h
   function_block (j ∷ is) [] f i h e = absurd h
-  function_block (j ∷ is) (c ∷ cs) zero i h e = let q : j ≡ i = cc (e) in (c, refl, subst (λ z. IsBlockAt z c) q h.0)
+  function_block (j ∷ is) (c ∷ cs) zero i h e = let q : j ≡ i = cc (e) in (c, refl, subst (λ z. IsDeclared E B L z c) q h.0)
   function_block (j ∷ is) (c ∷ cs) (suc f) i h e = function_block is cs f i h.1 e
 
 module _ (C0 : source.Blocks) (B : Blocks) (d : IsProgram C0) (made : IsClosed C0 B) where
@@ -113,14 +124,14 @@ module _ (C0 : source.Blocks) (B : Blocks) (d : IsProgram C0) (made : IsClosed C
   abbrev Start : Option flat_running.Entered → Option cps_running.Entered → Type 0
   Start = OptionReads (Begins E B L)
 
-  glob_block : (i g : ℕ) → IsFunction E B L i (leaf_form.Glob g) → (b : source.Block) × (slice_get C0.functions g ≡ Some b) × IsBlockOf E B L i b.entry no_kinds 0 b.code × program.IsFunction b.entry
-  glob_block i g e = let b = function_block E B L L C0.functions g i made.functions e.0 in (b.0, b.1, b.2, (each_at (IsFunctionBlock (setting_of C0)) C0.functions g b.0 d.functions b.1).function)
+  glob_block : (i g : ℕ) → IsFunction E B L i (leaf_form.Glob g) → (b : source.Block) × (slice_get C0.functions g ≡ Some b) × IsDeclared E B L i b × IsCalled (declared_entry b.entry)
+  glob_block i g e = let b = function_block E B L L C0.functions g i made.functions e.0 in (b.0, b.1, b.2, declared_called b.0.entry (each_at (IsFunctionBlock (setting_of C0)) C0.functions g b.0 d.functions b.1).function)
 
   glob_begins : (i : ℕ) (σ : ℕ → flat.Value) (g : ℕ) (x : flat.Value) (z : cps.Value) (k : flat.Value) (l : cps.Value) → EmptyFrom 0 σ → IsFunction E B L i (leaf_form.Glob g) → Reads E B L x z → Reads E B L k l → Start (called_by B (closed (under i 0) σ) x k) (cps_running.called_by C0 (atom (leaf_form.Glob g)) z l)
   glob_begins i σ g x z k l ef e r q = let b = glob_block i g e in
-      subst (λ o. Start (with_block o (call_block i 0 σ x k)) (cps_running.called_by C0 (atom (leaf_form.Glob g)) z l)) (sym b.2.1) (subst (λ o. Start (call_block i 0 σ x k b.0.entry b.2.0) (cps_running.declared_block g z l o)) (sym b.1) (by_entry b.0.entry b.0.code b.2 b.3))
+      subst (λ o. Start (with_block o (call_block i 0 σ x k)) (cps_running.called_by C0 (atom (leaf_form.Glob g)) z l)) (sym b.2.1) (subst (λ o. Start (call_block i 0 σ x k (declared_entry b.0.entry) b.2.0) (cps_running.declared_block g z l o)) (sym b.1) (by_entry (declared_entry b.0.entry) b.0.code b.2 b.3))
     where
-      by_entry : (y : Entry) (c : Code) → (m : IsBlockOf E B L i y no_kinds 0 c) → program.IsFunction y → Start (call_block i 0 σ x k y m.0) (Some (cps_running.called (atom (leaf_form.Glob g)) z l 0 cps_running.no_values c))
+      by_entry : (y : Entry) (c : Code) → (m : IsBlockOf E B L i y no_kinds 0 c) → IsCalled y → Start (call_block i 0 σ x k y m.0) (Some (cps_running.called (atom (leaf_form.Glob g)) z l 0 cps_running.no_values c))
       by_entry (by_call m A D) c md h = function_begins E B L _ _ i σ (leaf_form.Glob g) c md.0 x z k l ef e md.3 r q
       by_entry (by_value m T) c md h = absurd h
 
@@ -134,9 +145,9 @@ module _ (C0 : source.Blocks) (B : Blocks) (d : IsProgram C0) (made : IsClosed C
 
   pub resolves : (th : flat.Thread) (ti : cps.Thread) → ReadsThread E B L th ti → Start (resolved B th) (cps_running.resolved C0 ti)
   resolves (enter k x) (enter l z) r = by_heads E B L (λ k l. Start (entered_by B k x) (cps_running.entered_by l z)) (λ f p. tt) (λ f a c e. tt) (λ f a b c d e o. tt) (λ i j σ y n c ρ e. value_begins E B L i j σ y n c ρ x z e r.1)
-      (λ i σ g ef e. let b = glob_block i g e in not_value E B L i σ x (record { entry = b.0.entry; environment = []; code = b.2.0 }) b.2.1 b.3) (λ i σ p ef e. not_value E B L i σ x (asking_block p e.0.0 e.0.1) e.0.2 (at_world (primitive_world p) e.0.0 e.0.1)) k l r.0
+      (λ i σ g ef e. let b = glob_block i g e in not_value E B L i σ x (record { entry = declared_entry b.0.entry; environment = []; code = b.2.0 }) b.2.1 b.3) (λ i σ p ef e. not_value E B L i σ x (asking_block p e.0.0 e.0.1) e.0.2 (at_world (primitive_world p) e.0.0 e.0.1)) k l r.0
     where
-      at_world : (w : World) (A D : _) → program.IsFunction (by_call (only w) A D)
+      at_world : (w : World) (A D : _) → IsCalled (by_call (only w) A D)
       at_world w A D = tt
   resolves (call f x k) (call g z l) r = by_heads E B L (λ f g. Start (called_by B f x k) (cps_running.called_by C0 g z l)) (λ f p. no_calls f p x z k l) (λ f a c e. tt) (λ f a b c d e o. tt) (λ i j σ y n c ρ e. call_begins E B L C0 i j σ y n c ρ x z k l e r.1 r.2)
       (λ i σ g ef e. glob_begins i σ g x z k l ef e r.1 r.2) (λ i σ p ef e. extern_begins i σ p x z k l ef e r.1 r.2) f g r.0

@@ -7,3 +7,8 @@ pub mod Entering
 pub mod Whole
 pub mod Played
 pub mod Limited
+pub mod Follow
+pub mod Rowed
+pub mod Forms
+pub mod Typed
+pub mod Programs

@@ -1,12 +1,10 @@
 -- A closed block fills as many slots as the one that it is made of, and its endings nest as deep.
-use Rattle.std.proofs.Common.{◌≡◌, ℕ, suc, ◌+◌, ◌≤◌, max, List, map, length, Some, slice_get, refl, sym, ap, ap₂, ◌∙◌, subst, arith}
+use Rattle.std.proofs.Common.{◌≡◌, ℕ, suc, ◌+◌, ◌≤◌, max, List, map, Some, refl, sym, ap, ap₂, ◌∙◌, subst, arith}
 use Rattle.m5_terms.specs.declared.types.World.{World}
 use Rattle.m5_terms.specs.declared.form.LeafForm.TheVariants as leaf_form
-use Rattle.m5_terms.specs.declared.form.UnaryForm.{UnaryForm}
 use Rattle.m5_terms.specs.declared.form.UnaryForm.TheVariants as unary_form
 use Rattle.m5_typing.specs.Context.{Setting}
 use Rattle.m5_cps_typing.specs.Rows.{Kinds}
-use Rattle.m5_cps.specs.Entries.{Entry}
 use Rattle.m5_cps.specs.Blocks.{Straight, constant, one, two, unheld, unsham, spawn, Ending, go, call, ask, send, done, Code, straight, closure, test, ends}
 use Rattle.m5_cps.specs.Captured.{captured}
 use Rattle.m5_cps.specs.Limits.{parts_then, parts_else, straight_slots, test_slots, ending_slots, straight_depth, ending_depth, begun_slots}
@@ -14,7 +12,7 @@ use Rattle.m5_cps.specs.Limits as cps
 use Rattle.m5_flat.specs.Blocks.{Block, Blocks}
 use Rattle.m5_flat.specs.Blocks as flat
 use Rattle.m5_flat.specs.Limits.{path, depth, IsLimited}
-use Rattle.m5_close.specs.Close.{free, straight_anew, ending_anew, IsStraightMade, IsMade, IsBlockOf}
+use Rattle.m5_close.specs.Close.{free, straight_anew, ending_anew, IsStraightMade, IsMade}
 use Rattle.m5_close.specs.Closing.{ClosedAreLimited}
 use Rattle.m5_close.proofs.Slots.{captured_length, map_long}
 

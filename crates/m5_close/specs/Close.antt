@@ -1,9 +1,11 @@
 -- Closing: each closure takes the slots that its block uses, and a block's slots are numbered anew.
-use Rattle.std.specs.Prelude.{◌≡◌, ℕ, zero, suc, ◌+◌, ◌-◌, ◌==◌, nat_lt, if◌then◌else◌, List, [], ◌∷◌, map, length, Some, None, slice_get}
-use Rattle.std.specs.List.{AllZip}
-use Rattle.m5_terms.specs.TypeExpression.{TypeExpression, unit}
-use Rattle.m5_terms.specs.Primitives.{primitive_world}
+use Rattle.std.specs.Prelude.{◌≡◌, ℕ, zero, suc, ◌+◌, ◌-◌, ◌<◌, ◌≤◌, ◌==◌, nat_lt, IsTrue, false, if◌then◌else◌, List, [], ◌∷◌, ◌++◌, map, length, Some, None, slice_get}
+use Rattle.std.specs.List.{AllZip, AllByRecursion as Each}
+use Rattle.m5_terms.specs.TypeExpression.{TypeExpression, unit, function}
+use Rattle.m5_terms.specs.Primitives.{primitive_world, primitive_type}
+use Rattle.m5_terms.specs.Substitution.{among}
 use Rattle.m5_terms.specs.declared.types.World.{World}
+use Rattle.m5_terms.specs.declared.types.World.TheVariants.{Any}
 use Rattle.m5_terms.specs.declared.types.Primitive.{Primitive}
 use Rattle.m5_terms.specs.declared.form.LeafForm.{LeafForm}
 use Rattle.m5_terms.specs.declared.form.LeafForm.TheVariants as leaf_form
@@ -16,7 +18,7 @@ use Rattle.m5_cps.specs.Program.{setting_of}
 use Rattle.m5_cps.specs.Captured.{uses}
 use Rattle.m5_cps.specs.Limits.{parts_then, parts_else}
 use Rattle.m5_cps.specs.Values.{put, put_all}
-use Rattle.m5_flat.specs.Blocks.{Block, Blocks, primitive_at}
+use Rattle.m5_flat.specs.Blocks.{Block, Named, Blocks, primitive_at}
 use Rattle.m5_flat.specs.Blocks as flat
 use Rattle.m5_cps_typing.specs.Rows.{Kinds, source_type, straight_type, entry_kinds}
 
@@ -106,13 +108,61 @@ module _ (E : Setting) (B : Blocks) (functions : List ℕ) where
   abbrev pub IsBlockOf : ℕ → Entry → Kinds → ℕ → Code → Type 0
   IsBlockOf i y τ n c = HasBlock i y (map τ (free n c)) (λ g. IsMade (anew n (free n c)) (world_of (entry_mode y)) (entry_kinds y n τ) (entry_filled y n) c g)
 
+  -- the labels of the closures in the code, each before those in its block
+  abbrev pub labels_in : (r : ℕ → ℕ) (b : World) (τ : Kinds) (n : ℕ) (c : Code) (d : flat.Code) → IsMade r b τ n c d → List ℕ
+  labels_in r b τ n (straight f c) d m = labels_in r b (put n (straight_type E b τ f) τ) (suc n) c m.0 m.2
+  labels_in r b τ n (closure y c k) d m =
+      m.0 ∷ (labels_in (anew n (free n c)) (world_of (entry_mode y)) (entry_kinds y n τ) (entry_filled y n) c m.3.0 m.3.3
+      ++ labels_in r b (put n (entry_type y) τ) (suc n) k m.1 m.4)
+  labels_in r b τ n (test t x c k) d m =
+      labels_in r b (put_all n (types_then t (τ x)) τ) (parts_then t + n) c m.0 m.3 ++ labels_in r b (put_all n (types_else t (τ x)) τ) (parts_else t + n) k m.1 m.4
+  labels_in r b τ n (ends e) d m = []
+
+  -- the label of a block, and those of the closures in it
+  abbrev pub block_labels : (i : ℕ) (y : Entry) (τ : Kinds) (n : ℕ) (c : Code) → IsBlockOf i y τ n c → List ℕ
+  block_labels i y τ n c m = i ∷ labels_in (anew n (free n c)) (world_of (entry_mode y)) (entry_kinds y n τ) (entry_filled y n) c m.0 m.3
+
 -- the block that ends a thread is entered with unit, at each world
 abbrev pub finish_entry : Entry
 finish_entry = by_value everywhere (of unit)
 
--- the blocks under labels are these, closed
+-- a function that is declared at any is a closure at each world
+abbrev pub declared_entry : Entry → Entry
+declared_entry (by_call (only Any) A D) = by_call everywhere A D
+declared_entry y = y
+
+-- the label of a declared function has its block
+abbrev pub IsDeclared : Setting → Blocks → List ℕ → ℕ → cps.Block → Type 0
+IsDeclared E B L i b = IsBlockOf E B L i (declared_entry b.entry) no_kinds 0 b.code
+
+abbrev pub declared_labels : (E : Setting) (B : Blocks) (L : List ℕ) (is : List ℕ) (bs : List cps.Block) → AllZip (IsDeclared E B L) is bs → List ℕ
+declared_labels E B L [] [] m = []
+declared_labels E B L (i ∷ is) (b ∷ bs) m = block_labels E B L i (declared_entry b.entry) no_kinds 0 b.code m.0 ++ declared_labels E B L is bs m.1
+declared_labels E B L [] (b ∷ bs) m = absurd m
+declared_labels E B L (i ∷ is) [] m = absurd m
+
+-- the block of a primitive's label asks by it, with the argument and for the result of its type
+abbrev pub AsksBy : Blocks → Named → Type 0
+AsksBy B a =
+    (A : TypeExpression) × (D : TypeExpression) × (primitive_type a.primitive ≡ function A D) × (slice_get B.table a.label ≡ Some (asking_block a.primitive A D))
+
+abbrev pub AreDistinct : List ℕ → Type 0
+AreDistinct [] = Unit {0}
+AreDistinct (x ∷ xs) = (among x xs ≡ false) × AreDistinct xs
+
+-- the labels of main's block and those in it, of a thread's end, of primitives, and of the functions' blocks and those in them
+abbrev pub closed_labels : (C : cps.Blocks) (B : Blocks) (L : List ℕ) → AllZip (IsDeclared (setting_of C) B L) L C.functions → IsBlockOf (setting_of C) B L B.main main_entry no_kinds 0 C.main → List ℕ
+closed_labels C B L functions main =
+    block_labels (setting_of C) B L B.main main_entry no_kinds 0 C.main main
+    ++ (B.finish ∷ (map (λ (a : Named). a.label) B.primitives ++ declared_labels (setting_of C) B L L C.functions functions))
+
+-- the blocks under labels are these, closed: each block has a label of its own, and each label of the table is one of these
 pub record IsClosed (C : cps.Blocks) (B : Blocks) : Type 0 where
   pub labels : List ℕ
-  pub functions : AllZip (λ i (b : cps.Block). IsBlockOf (setting_of C) B labels i b.entry no_kinds 0 b.code) labels C.functions
+  pub functions : AllZip (IsDeclared (setting_of C) B labels) labels C.functions
   pub main : IsBlockOf (setting_of C) B labels B.main main_entry no_kinds 0 C.main
   pub finish : IsBlockOf (setting_of C) B labels B.finish finish_entry no_kinds 0 (ends done)
+  pub primitives : Each (AsksBy B) B.primitives
+  pub few : length B.primitives ≤ 8
+  pub own : AreDistinct (closed_labels C B labels functions main)
+  pub all : (i : ℕ) → i < length B.table → IsTrue (among i (closed_labels C B labels functions main))

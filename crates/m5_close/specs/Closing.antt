@@ -20,6 +20,7 @@ use Rattle.m5_cps.specs.Entries.{Entry}
 use Rattle.m5_cps.specs.Captured.{captured}
 use Rattle.m5_cps.specs.Limits.{IsLimited}
 use Rattle.m5_flat.specs.Limits as flat_limits
+use Rattle.m5_flat.specs.Program as flat_program
 use Rattle.m5_close.specs.Close.{IsBlockOf, IsClosed}
 use Rattle.m5_close.specs.Reading.{ReadsItem, ReadsSite}
 
@@ -55,3 +56,7 @@ abbrev pub ClosedAreLimited : Type 0
 ClosedAreLimited =
     (E : Setting) (B : Blocks) (functions : List ℕ) (i : ℕ) (y : Entry) (τ : Kinds) (n : ℕ) (c : cps.Code) → IsBlockOf E B functions i y τ n c →
     (b : Block) → slice_get B.table i ≡ Some b → IsLimited (captured n c) y c → flat_limits.IsLimited b
+
+-- the closed blocks are a program of blocks under labels: typed, and within the limits
+abbrev pub ClosedIsProgram : Type 0
+ClosedIsProgram = (C : cps.Blocks) (B : Blocks) → IsProgram C → IsClosed C B → flat_program.IsProgram B
