@@ -17,8 +17,8 @@ use Rattle.m5_cli.specs.declared.words.Job.TheVariants as job
 use Rattle.m5_cli.specs.declared.status.Status.{Status}
 use Rattle.m5_cli.specs.declared.status.Status.TheVariants as status
 
-program_of : (input : List ℕ) → HasScript input → HasProgram input
-program_of input s = record { short = s.short; tree = s.tree; raw = s.raw; program = s.program; accepted = s.accepted }
+program_of : (input script_text : List ℕ) → HasScript input script_text → HasProgram input
+program_of input script_text s = record { short = s.short; tree = s.tree; raw = s.raw; program = s.program; accepted = s.accepted }
 
 -- every job takes short inputs alone
 short_of : (j : Job) (input : List ℕ) → Takes j input → length input ≤ input_limit
@@ -26,12 +26,13 @@ short_of job.Check input t = t.short
 short_of job.Run input t = t.short
 short_of job.Ref input t = t.short
 short_of job.Expand input t = t.short
+short_of job.Replay input t = t.short
 
 not_refused : (meant : Status) (input text : List ℕ) → IsRefusal meant input text → HasProgram input → ⊥
 not_refused meant input text r p = r.not_accepted p.tree p.raw p.program p.accepted
 
-not_bad : (input text : List ℕ) → IsBadScript input text → HasScript input → ⊥
-not_bad input text b s = let bad = b.script in let says = s.script in cc
+not_bad : (input script_text text : List ℕ) → IsBadScript input script_text text → HasScript input script_text → ⊥
+not_bad input script_text text b s = let bad = b.script in let says = s.script in cc
 
 -- an input has one expansion
 same_out : (input : List ℕ) (a b : Listing) → Expands input a → Expands input b → a ≡ b
@@ -69,22 +70,37 @@ due_completes job.Check input status.Stopped text d t = d
 due_completes job.Run input status.Stopped text d t = d
 due_completes job.Ref input status.Stopped text d t = tt
 due_completes job.Expand input status.Stopped text d t = d
+due_completes job.Replay input status.Stopped text d t = d
 due_completes job.Check input status.BadText text d t = absurd (not_refused _ input text d t)
-due_completes job.Run input status.BadText text d t = absurd (not_refused _ input text d (program_of input t))
-due_completes job.Ref input status.BadText text d t = absurd (not_refused _ input text d (program_of input t))
+due_completes job.Run input status.BadText text d t = absurd (not_refused _ input text d (program_of input _ t))
+due_completes job.Ref input status.BadText text d t = absurd (not_refused _ input text d (program_of input _ t))
 due_completes job.Expand input status.BadText text d t = absurd (not_bad_text input text d t)
+due_completes job.Replay input status.BadText text d t = absurd (not_refused _ input text d (program_of input _ t))
 due_completes job.Check input status.BadTypes text d t = absurd (not_refused _ input text d t)
-due_completes job.Run input status.BadTypes text d t = absurd (not_refused _ input text d (program_of input t))
-due_completes job.Ref input status.BadTypes text d t = absurd (not_refused _ input text d (program_of input t))
+due_completes job.Run input status.BadTypes text d t = absurd (not_refused _ input text d (program_of input _ t))
+due_completes job.Ref input status.BadTypes text d t = absurd (not_refused _ input text d (program_of input _ t))
 due_completes job.Expand input status.BadTypes text d t = absurd (not_bad_types input text d t)
+due_completes job.Replay input status.BadTypes text d t = absurd (not_refused _ input text d (program_of input _ t))
 due_completes job.Check input status.BadScript text d t = d
-due_completes job.Run input status.BadScript text d t = not_bad input text d t
-due_completes job.Ref input status.BadScript text d t = not_bad input text d t
+due_completes job.Run input status.BadScript text d t = not_bad input _ text d t
+due_completes job.Ref input status.BadScript text d t = not_bad input _ text d t
 due_completes job.Expand input status.BadScript text d t = d
+due_completes job.Replay input status.BadScript text d t = not_bad input _ text d t
 due_completes job.Check input status.Unbuilt text d t = d
 due_completes job.Run input status.Unbuilt text d t = tt
 due_completes job.Ref input status.Unbuilt text d t = d
 due_completes job.Expand input status.Unbuilt text d t = d
+due_completes job.Replay input status.Unbuilt text d t = d
+due_completes job.Check input status.Refuted text d t = d
+due_completes job.Run input status.Refuted text d t = d
+due_completes job.Ref input status.Refuted text d t = d
+due_completes job.Expand input status.Refuted text d t = d
+due_completes job.Replay input status.Refuted text d t = tt
+due_completes job.Check input status.Unsettled text d t = d
+due_completes job.Run input status.Unsettled text d t = d
+due_completes job.Ref input status.Unsettled text d t = d
+due_completes job.Expand input status.Unsettled text d t = d
+due_completes job.Replay input status.Unsettled text d t = tt
 due_completes j input status.TooLong text d t = absurd (not_too_long input d.0 (short_of j input t))
 due_completes j input status.NoMemory text d t = tt
 due_completes j input status.ReadFault text d t = tt
@@ -93,3 +109,4 @@ due_completes job.Check input status.Usage text d t = absurd d
 due_completes job.Run input status.Usage text d t = absurd d
 due_completes job.Ref input status.Usage text d t = absurd d
 due_completes job.Expand input status.Usage text d t = absurd d
+due_completes job.Replay input status.Usage text d t = absurd d

@@ -6,6 +6,7 @@ mod LikeReading
 mod Likeness
 mod ReferenceDue
 mod Refusing
+mod ReplayDue
 mod ShownLines
 mod ShownParts
 mod Silent

@@ -26,12 +26,14 @@ text_due job.Check input text r h = h
 text_due job.Run input text r h = h
 text_due job.Ref input text r h = h
 text_due job.Expand input text r h = absurd r
+text_due job.Replay input text r h = h
 
 types_due : (j : Job) (input text : List ℕ) → ReadsProgram j → IsRefusal status.BadTypes input text → Due status.BadTypes j input text
 types_due job.Check input text r h = h
 types_due job.Run input text r h = h
 types_due job.Ref input text r h = h
 types_due job.Expand input text r h = absurd r
+types_due job.Replay input text r h = h
 
 -- a refusal of the program text is due for each job that reads it
 pub refused_due : (j : Job) (input text : List ℕ) (f : Fault) → ReadsProgram j → IsRefusal (status_of f) input text → Due (status_of f) j input text

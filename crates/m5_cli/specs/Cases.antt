@@ -10,6 +10,7 @@ use Rattle.m5_cli.specs.First.{IsFirst, IsRunTrace}
 use Rattle.m5_cli.specs.Input.{parts_of}
 use Rattle.m5_cli.specs.Reference.{IsReferenceTrace}
 use Rattle.m5_cli.specs.Refusal.{refusal_line, script_line, status_of}
+use Rattle.m5_cli.specs.Replaying.{IsVerdictText, replayed_script, replayed_trace}
 use Rattle.m5_cli.specs.Taken.{Accepts, HasProgram, HasScript, input_limit}
 use Rattle.m5_cli.specs.declared.status.Status.{Status}
 
@@ -20,26 +21,31 @@ pub record IsChecked (input text : List ℕ) : Type 0 where
 
 -- a program and a script of the first form, and the trace of their run
 pub record IsTraceOf (input text : List ℕ) : Type 0 where
-  pub given : HasScript input
+  pub given : HasScript input (parts_of input).script
   pub first : IsFirst (parts_of input).script given.scenario given.tree given.program
   pub runs : IsRunTrace given.program given.scenario text
 
 -- a program and a script, of which one is not of the first form
 pub record IsUnbuilt (input text : List ℕ) : Type 0 where
-  pub given : HasScript input
+  pub given : HasScript input (parts_of input).script
   pub other : IsFirst (parts_of input).script given.scenario given.tree given.program → ⊥
   pub line : text ≡ codes "refused unbuilt\n"
 
 -- a program and a script, and the trace of their reference run, which ends with this status
 pub record IsReferenceOf (meant : Status) (input text : List ℕ) : Type 0 where
-  pub given : HasScript input
+  pub given : HasScript input (parts_of input).script
   pub runs : IsReferenceTrace meant given.program given.scenario text
 
+-- a program and a script, and the verdict on a trace, which has this status
+pub record IsReplay (meant : Status) (input text : List ℕ) : Type 0 where
+  pub given : HasScript input (replayed_script input)
+  pub verdict : IsVerdictText meant given.program given.scenario (replayed_trace input) text
+
 -- an accepted program, and a script text with this first bad line
-pub record IsBadScript (input text : List ℕ) : Type 0 where
+pub record IsBadScript (input script_text text : List ℕ) : Type 0 where
   pub source : HasProgram input
   pub bad : Fault
-  pub script : script_of (parts_of input).script ≡ Err bad
+  pub script : script_of script_text ≡ Err bad
   pub line : text ≡ script_line bad.line bad.kind
 
 -- a program text with a fault whose status this is, so that it is not accepted

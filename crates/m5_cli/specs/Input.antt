@@ -1,4 +1,5 @@
--- An input is a program text and, after the first line that is exactly `%%`, a script text.
+-- An input is a program text and, after the first line that is exactly `%%`, a script text. For `replay` what follows that line is
+-- split so once more, into a script text and a trace.
 use Rattle.std.specs.Prelude.{ℕ, Bool, true, ◌==◌, ◌&&◌, if◌then◌else◌, List, [], ◌∷◌, ◌++◌, drop, slice_index, nat_lt}
 
 -- after two percent signs: how long the dividing line is with its line feed, a carriage return before it allowed; 0 where it is none

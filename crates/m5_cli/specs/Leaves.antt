@@ -4,6 +4,8 @@ use Rattle.std.specs.Io.KnownBytes.{Appends, Keeps}
 use Rattle.std.specs.declared.option.Option.{Option}
 use Rattle.m5_cli.specs.Due.{Due}
 use Rattle.m5_cli.specs.Expanding.{HasExpansion}
+use Rattle.m5_cli.specs.Input.{parts_of}
+use Rattle.m5_cli.specs.Replaying.{replayed_script}
 use Rattle.m5_cli.specs.Taken.{HasProgram, HasScript}
 use Rattle.m5_cli.specs.declared.words.Job.{Job}
 use Rattle.m5_cli.specs.declared.words.Job.TheVariants as job
@@ -32,9 +34,10 @@ Leaves job old new input s = TookDue job old new input s
 -- an input that a job takes: its program is accepted, its script too where the job reads one, and for `expand` its expansion
 abbrev pub Takes : Job → List ℕ → Type 0
 Takes job.Check input = HasProgram input
-Takes job.Run input = HasScript input
-Takes job.Ref input = HasScript input
+Takes job.Run input = HasScript input (parts_of input).script
+Takes job.Ref input = HasScript input (parts_of input).script
 Takes job.Expand input = HasExpansion input
+Takes job.Replay input = HasScript input (replayed_script input)
 
 -- an input that its job takes is answered with the job's output, if no stream fails and memory lasts; `run` may say that
 -- it is not of the first form
@@ -42,6 +45,8 @@ abbrev pub Completes : Job → Status → Type 0
 Completes job status.Rest = Unit {0}
 Completes job.Ref status.Stopped = Unit {0}
 Completes job.Run status.Unbuilt = Unit {0}
+Completes job.Replay status.Refuted = Unit {0}
+Completes job.Replay status.Unsettled = Unit {0}
 Completes job status.ReadFault = Unit {0}
 Completes job status.WriteFault = Unit {0}
 Completes job status.NoMemory = Unit {0}

@@ -7,6 +7,7 @@ pub mod Input
 pub mod Leaves
 pub mod Reference
 pub mod Refusal
+pub mod Replaying
 pub mod Status
 pub mod Taken
 pub mod Words

@@ -15,3 +15,5 @@ number_of status.NoMemory = 7
 number_of status.TooLong = 8
 number_of status.Stopped = 10
 number_of status.Unbuilt = 11
+number_of status.Refuted = 12
+number_of status.Unsettled = 13

@@ -22,9 +22,9 @@ pub record AcceptsAs (input : List ℕ) (program : ProgramTerm) : Type 0 where
   pub raw : RawTerm
   pub accepted : Accepts input tree raw program
 
--- the script text of an input says this
+-- a script text says this
 abbrev pub SaysScript : List ℕ → Scenario → Type 0
-SaysScript input scenario = script_of (parts_of input).script ≡ Ok scenario
+SaysScript text scenario = script_of text ≡ Ok scenario
 
 -- the input is short, and its program text is accepted
 pub record HasProgram (input : List ℕ) : Type 0 where
@@ -34,12 +34,12 @@ pub record HasProgram (input : List ℕ) : Type 0 where
   pub program : ProgramTerm
   pub accepted : Accepts input tree raw program
 
--- moreover its script text is a script
-pub record HasScript (input : List ℕ) : Type 0 where
+-- moreover this text, which its job reads as the script's, is a script
+pub record HasScript (input script_text : List ℕ) : Type 0 where
   pub short : length input ≤ input_limit
   pub tree : Tree
   pub raw : RawTerm
   pub program : ProgramTerm
   pub accepted : Accepts input tree raw program
   pub scenario : Scenario
-  pub script : SaysScript input scenario
+  pub script : SaysScript script_text scenario

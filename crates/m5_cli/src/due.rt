@@ -16,6 +16,7 @@ use crate::first::first_trace;
 use crate::input::split;
 use crate::reference::reference_trace;
 use crate::refusal::{fault_status, refusal_text, script_text};
+use crate::replay::verdict_answer;
 use crate::status::Status;
 use crate::words::Job;
 use m5_front::program::{Accepted, read_program};
@@ -61,10 +62,9 @@ fn script_in(
 ) -> Result<Result<Script, Answer>, AllocError>
     requires short { length input.now ≤ input_limit }
     requires accepted { Accepts input.now accepted.now.tree accepted.now.raw accepted.now.program }
-    requires text { text.now ≡ (parts_of input.now).script }
     requires within { length text.now ≤ length input.now }
-    ensures says { IfOk result (λ read. IfOk read (SaysScript input.now)) }
-    ensures bad { IfOk result (λ read. IfErr read (λ answer. (answer.status ≡ Status.BadScript) × IsBadScript input.now answer.text)) }
+    ensures says { IfOk result (λ read. IfOk read (SaysScript text.now)) }
+    ensures bad { IfOk result (λ read. IfErr read (λ answer. (answer.status ≡ Status.BadScript) × IsBadScript input.now text.now answer.text)) }
 {
     match read_script(alloc, text) {
         Ok(script) => Ok(Ok(script)),
@@ -87,7 +87,7 @@ fn run_script(
     requires short { length input.now ≤ input_limit }
     requires accepted { Accepts input.now accepted.now.tree accepted.now.raw accepted.now.program }
     requires text { text.now ≡ (parts_of input.now).script }
-    requires script { SaysScript input.now script.now }
+    requires script { SaysScript (parts_of input.now).script script.now }
     ensures { IfOk result (λ answer. Due answer.status Job.Run input.now answer.text) }
 {
     match first_trace(alloc, accepted, text, script)? {
@@ -135,6 +135,26 @@ fn reference(
     }
 }
 
+/// What `replay` owes for an accepted program and a script text with a trace after its dividing line.
+fn replayed(
+    alloc: Global,
+    input: &[u8],
+    accepted: &Accepted,
+    rest: &[u8],
+) -> Result<Answer, AllocError>
+    requires short { length input.now ≤ input_limit }
+    requires accepted { Accepts input.now accepted.now.tree accepted.now.raw accepted.now.program }
+    requires rest { rest.now ≡ (parts_of input.now).script }
+    requires within { length rest.now ≤ length input.now }
+    ensures { IfOk result (λ answer. Due answer.status Job.Replay input.now answer.text) }
+{
+    let (text, trace) = split(rest);
+    match script_in(alloc, input, accepted, text)? {
+        Ok(script) => verdict_answer(alloc, &accepted.program, &script, trace),
+        Err(answer) => Ok(answer),
+    }
+}
+
 /// What a job that reads the program text as it stands owes for an input.
 fn program_due(alloc: Global, job: Job, input: &[u8]) -> Result<Answer, AllocError>
     requires reads { ReadsProgram job }
@@ -151,6 +171,7 @@ fn program_due(alloc: Global, job: Job, input: &[u8]) -> Result<Answer, AllocErr
         Job::Check => checked(alloc, input, &accepted),
         Job::Run => run(alloc, input, &accepted, script),
         Job::Ref => reference(alloc, input, &accepted, script),
+        Job::Replay => replayed(alloc, input, &accepted, script),
         Job::Expand => unreachable!(),
     }
 }
@@ -165,5 +186,6 @@ pub(crate) fn due(alloc: Global, job: Job, input: &[u8]) -> Result<Answer, Alloc
         Job::Run => program_due(alloc, Job::Run, input),
         Job::Ref => program_due(alloc, Job::Ref, input),
         Job::Expand => expanded(alloc, input),
+        Job::Replay => program_due(alloc, Job::Replay, input),
     }
 }

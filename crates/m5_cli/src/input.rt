@@ -1,4 +1,4 @@
-//! The parts of an input: a program text and, after a dividing line, a script text.
+//! The parts of an input: a program text and, after a dividing line, what follows it, a script text and perhaps a trace.
 
 ghost use Rattle.std.specs.Prelude.{◌≡◌, ◌≤◌, ◌+◌, length};
 ghost use Rattle.m5_cli.specs.Input.{after_marks, divider, parts_of};
@@ -28,7 +28,7 @@ fn divider_length(rest: &[u8]) -> usize
     }
 }
 
-/// The program text and the script text of an input.
+/// The program text of an input and what follows its first dividing line.
 pub fn split(input: &[u8]) -> (&[u8], &[u8])
     ensures program { result.0.now ≡ (parts_of input.now).program }
     ensures script { result.1.now ≡ (parts_of input.now).script }

@@ -55,10 +55,12 @@ fn answer<K: Sink>(alloc: Global, job: Job, input: &[u8], sink: &mut K) -> Statu
 /// of the program's run: `run` of a program and a script of the first form, `ref` of any, by the meaning itself, each site
 /// within the lesser of the script's steps and 5,000. Where a trace has a stop line the answer is `Stopped`, else `Rest`.
 /// `expand` reads a program text, and writes its expansion, where that is accepted, and the input from its dividing line on as it
-/// is.
+/// is. `replay` reads a program, a script and, after a second dividing line, a trace, and writes whether the trace is one of the
+/// program's run by the script: `yes` at `Rest`, `no L` at `Refuted` where L is the first line that does not fit, and `spent L`
+/// at `Unsettled` where line L needs more than the budget.
 ///
 /// Where the input has more than 262,144 bytes the answer is `TooLong`, where the program text is refused `BadText` or
-/// `BadTypes`, where `run` or `ref` refuses the script `BadScript`, and where `run` is given another form `Unbuilt`, each
+/// `BadTypes`, where `run`, `ref` or `replay` refuses the script `BadScript`, and where `run` is given another form `Unbuilt`, each
 /// with its line; `ReadFault` and `WriteFault` come with a failure of the source and the sink, and `NoMemory` where memory
 /// ran out. For `expand` a text is refused with bad bytes and numbers, without an expansion, and with one that is refused. So an
 /// accepted program, with a script where the job reads one, is answered with the job's output, or by a fault, `NoMemory` or, of

@@ -9,6 +9,7 @@ mod input;
 mod jobs;
 mod reference;
 mod refusal;
+mod replay;
 mod status;
 mod top;
 mod words;

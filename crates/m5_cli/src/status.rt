@@ -28,6 +28,10 @@ pub enum Status {
     Stopped,
     /// The program or the script is not of the form that `run` takes today.
     Unbuilt,
+    /// The trace is refuted: a line of it does not fit.
+    Refuted,
+    /// The trace is left unsettled: a line needs more than the budget.
+    Unsettled,
 }
 
 impl Status {
@@ -47,6 +51,8 @@ impl Status {
             Status::TooLong => 8,
             Status::Stopped => 10,
             Status::Unbuilt => 11,
+            Status::Refuted => 12,
+            Status::Unsettled => 13,
         }
     }
 }

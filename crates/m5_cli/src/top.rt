@@ -30,6 +30,10 @@ pub fn ml5<R: Threads + Wait + Sync, S: Source, K: Sink, G: Gate + Sync>(
 {
     match read_words(words) {
         Some(job) => plain(alloc, job, source, sink),
-        None => finish(sink, Status::Usage, b"usage: ml5 check, run, ref, expand\n"),
+        None => finish(
+            sink,
+            Status::Usage,
+            b"usage: ml5 check, run, ref, expand, replay\n",
+        ),
     }
 }

@@ -17,6 +17,8 @@ pub enum Job {
     Ref,
     /// Write out the instances of a program's generic declarations.
     Expand,
+    /// Say whether a trace is one of a program's run by a script.
+    Replay,
 }
 
 /// The words after the program's name, which contracts see as a list of texts.
@@ -65,6 +67,7 @@ pub fn read_words(words: &Words) -> Option<Job>
         [word] if word.as_str() == "run" => Some(Job::Run),
         [word] if word.as_str() == "ref" => Some(Job::Ref),
         [word] if word.as_str() == "expand" => Some(Job::Expand),
+        [word] if word.as_str() == "replay" => Some(Job::Replay),
         _ => None,
     }
 }

@@ -1,4 +1,5 @@
 use Rattle.std.proofs.Common.{rules}
+use Rattle.m5_cli.specs.Input.{parts_of}
 use Rattle.m5_cli.specs.Taken.{HasScript}
 use Rattle.m5_cli.proofs.ReferenceDue.{answered}
 use Rattle.m5_cli.proofs.due.reference.Goals as goal
@@ -6,7 +7,7 @@ use Rattle.m5_cli.proofs.due.reference.Goals as goal
 -- the trace of the given program and script is due with its status
 pub returns-in-Ok : goal.returns-in-Ok
 returns-in-Ok c =
-    let given : HasScript c.args.input.now = record {
+    let given : HasScript c.args.input.now (parts_of c.args.input.now).script = record {
       short = c.requires.short;
       tree = c.args.accepted.now.tree;
       raw = c.args.accepted.now.raw;
