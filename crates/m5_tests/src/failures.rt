@@ -10,7 +10,7 @@ use std::test::Fail;
 const HI: &[u8] = b"extern val say : string -> unit @ home\nmain = say \"hi\"\n%%\nsessions 1\n";
 
 /// A job, the read that fails and the write that fails, none being 0, the status, and what the sink then holds.
-const CASES: [(Job, u64, u64, Status, &[u8]); 12] = [
+const CASES: [(Job, u64, u64, Status, &[u8]); 15] = [
     (Job::Run, 0, 0, Status::Rest, b"1 home say \"hi\"\nrest\n"),
     (Job::Ref, 0, 0, Status::Rest, b"1 home say \"hi\"\nrest\n"),
     (Job::Check, 0, 0, Status::Rest, b"accepted\n"),
@@ -23,6 +23,9 @@ const CASES: [(Job, u64, u64, Status, &[u8]); 12] = [
     (Job::Expand, 0, 0, Status::Rest, HI),
     (Job::Expand, 2, 0, Status::ReadFault, b""),
     (Job::Expand, 0, 2, Status::WriteFault, b"extern val say :"),
+    (Job::Replay, 0, 0, Status::Refuted, b"no 1\n"),
+    (Job::Replay, 2, 0, Status::ReadFault, b""),
+    (Job::Replay, 0, 1, Status::WriteFault, b""),
 ];
 
 /// The status of a job and what the sink then holds, for the input and the output in pieces of 16 bytes.
@@ -59,7 +62,7 @@ fn come_after_the_words(rt: HostRuntime) -> Result<(), Fail> {
     assert_eq!(rt; status, Status::Usage);
     assert_eq!(rt;
         sink.held(),
-        b"usage: ml5 check, run, ref, expand\n".as_slice()
+        b"usage: ml5 check, run, ref, expand, replay\n".as_slice()
     );
     words.push("check")?;
     let status = ml5(&rt, alloc, &words, &mut source, &mut sink, &OpenGate);
