@@ -22,7 +22,7 @@ Runs the job WORD .. of the built `ml5` on FILE, with the output and the status 
 FILE is a program, or a program, a line %% and its script. Where FILE is NAME.ml5, has no such line, and NAME.script stands
 beside it, that is its script.
 
-The words are those of a job: `check`, `run`, `ref` or `expand`. As in: tools/explain.sh examples/chat.ml5 ref
+The words are those of a job: `check`, `run`, `ref`, `expand` or `replay`. As in: tools/explain.sh examples/chat.ml5 ref
 END
     exit 0 ;;
 esac
