@@ -6,3 +6,12 @@ pub mod Arrays
 pub mod Gathered
 pub mod Rooted
 pub mod Wholes
+pub mod Marked
+pub mod Walking
+pub mod Spells
+pub mod Entering
+pub mod KeySets
+pub mod Fields
+pub mod PlaceIn
+pub mod Written
+pub mod Sendings

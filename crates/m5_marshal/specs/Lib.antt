@@ -1,2 +1,3 @@
 pub mod Unpack
+pub mod Pack
 pub mod code

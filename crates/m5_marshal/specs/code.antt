@@ -4,3 +4,4 @@ pub mod Ids
 pub mod Opened
 pub mod Adding
 pub mod Tail
+pub mod Keys

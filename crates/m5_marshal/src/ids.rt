@@ -10,7 +10,8 @@ use crate::number::number32;
 use m5_dictionary::dicts::Dicts;
 use m5_dictionary::line::is_object;
 
-fn is_object_id(dicts: &Dicts, id: u32) -> bool
+/// Whether the id is there, and of a type whose values are objects.
+pub(crate) fn is_object_id(dicts: &Dicts, id: u32) -> bool
     ensures { result ≡ is_object_line (slice_get dicts.now.types id) }
 {
     match dicts.line(id) {

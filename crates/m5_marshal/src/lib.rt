@@ -1,14 +1,22 @@
-//! A thread as bytes: a message is read into a region.
+//! A thread as bytes: written out of a region as a message, and read into one.
 #![tactic(auto)]
 
 mod add;
 mod contents;
 mod field;
 mod ids;
+mod key;
+mod marking;
 mod number;
+mod opened;
 mod opening;
+mod packing;
 mod pass;
+mod places;
 mod root;
+mod spell;
 mod unpacking;
+mod writing;
 
+pub use packing::pack;
 pub use unpacking::{UnpackEnd, unpack};
