@@ -101,11 +101,11 @@ wanted_rises w at (suc k) small = by_test (has w (record { at = at; id = k })) (
     by_test : (t : Bool) → Rising (wanted_ids w at k) → Rising (wanted_ids w at k ++ cond t (record { at = at; id = k } ∷ []) [])
     by_test false go = subst Rising (sym (append-nil (wanted_ids w at k))) go
     by_test true go = rising_append (wanted_ids w at k) (record { at = at; id = k } ∷ []) go (tt, tt) (λ (p q : Reached) e f.
-      let here = wanted_here w at k p e in
-      elim (head_cases (record { at = at; id = k }) [] q f) [
-        | inl is ↦ subst (λ (x : Reached). rank p < rank x) is (omega (arith, here.0, here.1))
-        | inr z ↦ absurd (let wrong : false ≡ true = z in cc)
-      ])
+        let here = wanted_here w at k p e in
+        elim (head_cases (record { at = at; id = k }) [] q f) [
+          | inl is ↦ subst (λ (x : Reached). rank p < rank x) is (omega (arith, here.0, here.1))
+          | inr z ↦ absurd (let wrong : false ≡ true = z in cc)
+        ])
 
 -- each is at an object below the number, of an id below the number of types
 pub marked_below : (d : Dictionaries) (os : List Object) (at : ℕ) (w : List Reached) (q : Reached) → has (marked d os at w) q ≡ true → (q.at < at) × (q.id < length d.types)
@@ -126,9 +126,9 @@ marked_rises d os (suc at) w small =
     let ids = wanted_ids w at (length d.types) in
     let more = w ++ flat_map (reaches d os) ids in
     rising_append (marked d os at more) ids (marked_rises d os at more small) (wanted_rises w at (length d.types) (omega arith)) (λ (p q : Reached) e f.
-      let below = marked_below d os at more p e in
-      let here = wanted_here w at (length d.types) q f in
-      omega (arith, below.0, below.1, here.0))
+    let below = marked_below d os at more p e in
+    let here = wanted_here w at (length d.types) q f in
+    omega (arith, below.0, below.1, here.0))
 
 -- each was wanted at first or is reached by another
 pub marked_from : (d : Dictionaries) (os : List Object) (at : ℕ) (w : List Reached) (q : Reached) → has (marked d os at w) q ≡ true → has (w ++ flat_map (reaches d os) (marked d os at w)) q ≡ true
@@ -165,8 +165,8 @@ marked_whole d os at w small fit = record {
   from = marked_from d os at w;
   reached = λ (p q : Reached) e f. closed_at d os [] (marked d os at w) p q (closed_marked d os at w fit) e f;
   falls = λ (p q : Reached) e f.
-    let good = all_at (λ x. IsFit d os x (slice_get os x.at)) (marked d os at w) p fit e in
-    let below = all_at (λ x. (x.at < p.at) × (x.id < length d.types)) (reaches d os p) q (fit_below d os p (slice_get os p.at) good) f in
-    omega (arith, below.0, below.1);
+      let good = all_at (λ x. IsFit d os x (slice_get os x.at)) (marked d os at w) p fit e in
+      let below = all_at (λ x. (x.at < p.at) × (x.id < length d.types)) (reaches d os p) q (fit_below d os p (slice_get os p.at) good) f in
+      omega (arith, below.0, below.1);
   fit = λ (q : Reached) e. all_at (λ x. IsFit d os x (slice_get os x.at)) (marked d os at w) q fit e;
 }

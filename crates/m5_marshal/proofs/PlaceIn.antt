@@ -34,7 +34,7 @@ place_above ps k p n rises there get lt =
             let one : k ≡ p = some_is k p (sym at ∙ ap (slice_get ps) is ∙ get) in
             let wrong : rank p < rank p = subst (λ (x : Reached). rank p < rank x) one lt in
             absurd (omega arith)
-          )
+            )
       ]
     ]
 

@@ -88,8 +88,8 @@ argument_sent d w os t h =
     let below = value_below d (length os) t.argument_id (slice_get d.types t.argument_id) t.argument h.argument in (
       plain_of d (λ i j. (j < length os) × (i < length d.types)) t.argument_id (slice_get d.types t.argument_id) t.argument h.argument,
       all_of (λ q. has (sent_from d os t) q ≡ true) first (λ (q : Reached) e.
-        let low = all_at (λ x. (x.at < length os) × (x.id < length d.types)) first q below e in
-        marked_has d os (length os) (t.code ∷ first) q low.0 low.1 (has_tail t.code first q e)),
+          let low = all_at (λ x. (x.at < length os) × (x.id < length d.types)) first q below e in
+          marked_has d os (length os) (t.code ∷ first) q low.0 low.1 (has_tail t.code first q e)),
     )
 
 pub entered_there : (d : Dictionaries) (w : World) (os : List Object) (t : Sending) → IsSendable d w os t → (e : Entrance) × Entered d os t.code.at e

@@ -43,11 +43,11 @@ last_wanted d os w m todo after f l is walk e =
     walk.all l in_front (elim (has_cases w (flat_map (reaches d os) m) l (is.from l in_m)) [
       | inl s ↦ has_left w (flat_map (reaches d os) after) l s
       | inr s ↦ elim (from_one (reaches d os) m l s) [
-        One p i r ↦
-          elim (has_cases (f ++ l ∷ []) after p (subst (λ (x : List Reached). has x p ≡ true) whole i)) [
-            | inr k ↦ has_right w (flat_map (reaches d os) after) l (to_one (reaches d os) after p l k r)
-            | inl k ↦ absurd (not_above p (is.falls p l i r) k whole)
-          ]
+        | One p i r ↦
+            elim (has_cases (f ++ l ∷ []) after p (subst (λ (x : List Reached). has x p ≡ true) whole i)) [
+              | inr k ↦ has_right w (flat_map (reaches d os) after) l (to_one (reaches d os) after p l k r)
+              | inl k ↦ absurd (not_above p (is.falls p l i r) k whole)
+            ]
       ]
     ])
   where
@@ -57,7 +57,7 @@ last_wanted d os w m todo after f l is walk e =
           let rises = subst Rising (whole ∙ append_assoc f (l ∷ []) after) is.rises in
           let below : rank p < rank l = rising_across f (l ∷ after) p l rises s (has_head l after) in
           omega arith
-        )
+          )
       | inr s ↦ elim (head_cases l [] p s) [
         | inl same ↦ (let no : rank l < rank l = subst (λ (x : Reached). rank l < rank x) (sym same) lt in omega arith)
         | inr z ↦ absurd (let wrong : false ≡ true = z in cc)
@@ -99,7 +99,7 @@ walk_goes_on d os w m todo after us next k is walk split below more = by_end (en
               let rises = subst Rising (walk.whole ∙ ap (λ (x : List Reached). x ++ after) e ∙ append_assoc f (l ∷ []) after) is.rises in
               let lt : rank k < rank l = rising_across f (l ∷ after) k l rises s (has_head l after) in
               absurd (omega arith)
-            )
+              )
           | inr s ↦ elim (head_cases l [] k s) [
             | inl same ↦ same
             | inr z ↦ absurd (let wrong : false ≡ true = z in cc)
@@ -140,24 +140,24 @@ walk_goes_on d os w m todo after us next k is walk split below more = by_end (en
                         let rises_again = subst Rising (whole ∙ sym (append_assoc f (k ∷ []) after)) is.rises in
                         let higher : rank k < rank q = rising_across (f ++ k ∷ []) after k q rises_again (has_right f (k ∷ []) k (has_head k [])) u in
                         absurd (omega arith)
-                      )
+                        )
                   ]
                 ]
-              )
+                )
           ];
           all = λ (q : Reached) h wanted.
-            let lower : rank q < rank k = rising_across f (k ∷ after) q k rises h (has_head k after) in
-            let q_front : has walk.front q ≡ true = subst (λ (x : List Reached). has x q ≡ true) (sym e) (has_left f (k ∷ []) q h) in
-            elim (by_want q wanted) [
-              | inr s ↦ more.added q s
-              | inl s ↦ elim (has_cases us (k ∷ []) q (subst (λ (x : List Reached). has x q ≡ true) split (walk.all q q_front s))) [
-                | inl t ↦ more.kept q t
-                | inr t ↦ elim (head_cases k [] q t) [
-                  | inl same ↦ (let no : rank k < rank k = subst (λ (x : Reached). rank x < rank k) (sym same) lower in absurd (omega arith))
-                  | inr z ↦ absurd (let wrong : false ≡ true = z in cc)
+              let lower : rank q < rank k = rising_across f (k ∷ after) q k rises h (has_head k after) in
+              let q_front : has walk.front q ≡ true = subst (λ (x : List Reached). has x q ≡ true) (sym e) (has_left f (k ∷ []) q h) in
+              elim (by_want q wanted) [
+                | inr s ↦ more.added q s
+                | inl s ↦ elim (has_cases us (k ∷ []) q (subst (λ (x : List Reached). has x q ≡ true) split (walk.all q q_front s))) [
+                  | inl t ↦ more.kept q t
+                  | inr t ↦ elim (head_cases k [] q t) [
+                    | inl same ↦ (let no : rank k < rank k = subst (λ (x : Reached). rank x < rank k) (sym same) lower in absurd (omega arith))
+                    | inr z ↦ absurd (let wrong : false ≡ true = z in cc)
+                  ]
                 ]
-              ]
-            ];
+              ];
         }
 
     by_end : Ends walk.front → Walk d os w m next (k ∷ after)

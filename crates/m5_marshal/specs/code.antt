@@ -1,4 +1,4 @@
--- What the code keeps while it reads a message.
+-- What the code keeps while it reads a message, and while it writes one.
 pub mod Finds
 pub mod Ids
 pub mod Opened

@@ -37,7 +37,12 @@ pub(crate) fn insert(todo: &mut BTreeSet<Key>, key: Key) -> Result<(), AllocErro
 }
 
 /// Marks what a value of a type reaches at once.
-pub(crate) fn want(todo: &mut BTreeSet<Key>, dicts: &Dicts, id: u32, value: Value) -> Result<(), AllocError>
+pub(crate) fn want(
+    todo: &mut BTreeSet<Key>,
+    dicts: &Dicts,
+    id: u32,
+    value: Value,
+) -> Result<(), AllocError>
     ensures { OnOk result (HasMore (to_mark todo.old) (value_reaches (is_object_line (slice_get dicts.now.types id)) id value) (to_mark todo.new)) }
 {
     if is_object_id(dicts, id) {

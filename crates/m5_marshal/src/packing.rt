@@ -124,7 +124,16 @@ pub fn pack(
     let code = Key { at, id };
     let keys = pairs(alloc, region, dicts, code, argument_id, thread.argument)?;
     let keys = keys.as_slice();
-    let out = spelled(alloc, region, dicts, seal, keys, code, argument_id, thread.argument)?;
+    let out = spelled(
+        alloc,
+        region,
+        dicts,
+        seal,
+        keys,
+        code,
+        argument_id,
+        thread.argument,
+    )?;
     let text = Text::of(alloc, out.as_slice())?;
     Ok(text)
 }

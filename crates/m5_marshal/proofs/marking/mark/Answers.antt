@@ -16,8 +16,8 @@ loop-key-init c =
     let m = marked d os (length os) (to_mark c.args.wanted) in
     subst (λ (ks : List Key). Walk d os (to_mark c.args.wanted) m (to_mark c.args.wanted) (marks (reverse ks))) (sym c.new-done.ensures.items)
     (walk_begins d os (to_mark c.args.wanted) m (to_mark c.args.wanted) (record { kept = λ (q : Reached) e. absurd (let wrong : false ≡ true = e in cc); added = λ (q : Reached) e. e; only = λ (q : Reached) e. e }) (λ (q : Reached) e.
-      let low = all_at (λ x. (x.at < length os) × (x.id < length d.types)) (to_mark c.args.wanted) q c.requires.below e in
-      marked_has d os (length os) (to_mark c.args.wanted) q low.0 low.1 e))
+    let low = all_at (λ x. (x.at < length os) × (x.id < length d.types)) (to_mark c.args.wanted) q c.requires.below e in
+    marked_has d os (length os) (to_mark c.args.wanted) q low.0 low.1 e))
 
 pub want_parts-requires : goal.want_parts-requires
 want_parts-requires c =

@@ -31,20 +31,20 @@ returns c w h =
     let g = short_of (n - place_in ps t.code) in
     c.in_ok-put_value.ensures
     ∙ ap (λ (x : List ℕ). x ++ e) (
-      c.in_ok-put_distance.ensures
-      ∙ ap (λ (x : List ℕ). x ++ g) (
-        c.in_ok-put_contents.ensures
-        ∙ ap (λ (x : List ℕ). x ++ s) (
-          c.in_ok-put_ids.ensures
-          ∙ ap (λ (x : List ℕ). x ++ b) (
-            c.in_ok-put_short.ensures
-            ∙ ap (λ (x : List ℕ). x ++ short_of n) (
-              c.in_ok-push.ensures.items
-              ∙ ap (λ (x : List ℕ). x ++ 2 ∷ []) (c.in_ok-extend_from_slice.ensures.items ∙ ap (λ (x : List ℕ). x ++ seal) c.new-out.ensures.items)
-            )
-          )
-        )
-      )
+    c.in_ok-put_distance.ensures
+    ∙ ap (λ (x : List ℕ). x ++ g) (
+    c.in_ok-put_contents.ensures
+    ∙ ap (λ (x : List ℕ). x ++ s) (
+    c.in_ok-put_ids.ensures
+    ∙ ap (λ (x : List ℕ). x ++ b) (
+    c.in_ok-put_short.ensures
+    ∙ ap (λ (x : List ℕ). x ++ short_of n) (
+    c.in_ok-push.ensures.items
+    ∙ ap (λ (x : List ℕ). x ++ 2 ∷ []) (c.in_ok-extend_from_slice.ensures.items ∙ ap (λ (x : List ℕ). x ++ seal) c.new-out.ensures.items)
+    )
+    )
+    )
+    )
     )
     ∙ joined seal (short_of n) b s g e
     ∙ ap (λ (m : ℕ). seal ++ (2 ∷ (short_of m ++ (b ++ (s ++ (short_of (m - place_in ps t.code) ++ sent_bytes d ps m t.argument_id t.argument)))))) count
