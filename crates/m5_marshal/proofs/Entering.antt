@@ -1,5 +1,5 @@
 -- A label that is entered is there.
-use Rattle.std.proofs.Common.{◌≡◌, ℕ, ◌<◌, Bool, true, false, cond, eqb, List, [], ◌∷◌, length, Option, Some, None, slice_get, refl, sym, ap, subst, ◌∙◌, pos}
+use Rattle.std.proofs.Common.{◌≡◌, ℕ, ◌<◌, Bool, true, false, cond, eqb, List, [], ◌∷◌, length, Option, Some, None, slice_get, subst, pos}
 use Rattle.std.proofs.lemmas.Option.{slice_get_within}
 use Rattle.m5_region.specs.declared.value.Value.TheVariants as values
 use Rattle.m5_dictionary.specs.Dictionaries.{Entrance}

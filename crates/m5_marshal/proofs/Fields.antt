@@ -1,19 +1,18 @@
 -- The fields of an object that is one of a type, as a region has them.
-use Rattle.std.proofs.Common.{◌≡◌, ℕ, zero, suc, ◌+◌, ◌<◌, ◌≤◌, ◌^◌, true, List, [], ◌∷◌, ◌++◌, length, take, drop, Option, Some, None, slice_get, refl, sym, ap, subst, ◌∙◌, append_assoc, append-nil, length-append, arith, IsSome, IsSomeAnd, pos, ℤ}
+use Rattle.std.proofs.Common.{◌≡◌, ℕ, zero, suc, ◌+◌, ◌<◌, ◌≤◌, List, [], ◌∷◌, ◌++◌, length, take, drop, Option, Some, None, slice_get, refl, sym, ap, subst, ◌∙◌, append_assoc, append-nil, arith, IsSome, IsSomeAnd, pos, ℤ}
 use Rattle.std.specs.Prelude.{unwrap_or}
 use Rattle.m5_region.specs.declared.value.Value.{Value}
 use Rattle.m5_region.specs.declared.value.Value.TheVariants as values
-use Rattle.m5_region.specs.Region.{Object, ArrayOf, TextOf, MayFollow, ReferToOlder, fields_in, fields_of, field_of, place_in, text_of}
+use Rattle.m5_region.specs.Region.{Object, ArrayOf, ReferToOlder, fields_in, fields_of, field_of, place_in}
 use Rattle.m5_dictionary.specs.Dictionaries.{Dictionaries}
 use Rattle.m5_message.specs.Reading.{Opening, Whole, Parts, is_object_line}
 use Rattle.m5_message.specs.Message.{label_in}
-use Rattle.m5_message.specs.Spelling.{opening_in, IsOf, AreOf, Closes, IsObjectOf}
+use Rattle.m5_message.specs.Spelling.{opening_in, AreOf, Closes}
 use Rattle.m5_message.specs.Packing.{Reached, IsFit, value_reaches, values_reach}
 use Rattle.m5_marshal.specs.declared.key.Key.{Key}
-use Rattle.m5_marshal.specs.declared.opening.Others.{Others}
 use Rattle.m5_marshal.specs.declared.opening.Opened.{Opened}
 use Rattle.m5_marshal.specs.declared.opening.Opened.TheVariants as kept
-use Rattle.m5_marshal.specs.code.Opened.{opening, others_of}
+use Rattle.m5_marshal.specs.code.Opened.{others_of}
 use Rattle.m5_marshal.specs.code.Keys.{reached, OpensAs, HasFields, IsThere}
 
 pub are_of_count : (d : Dictionaries) (R : ℕ → ℕ → Type 0) (ids : List ℕ) (vs : List Value) → AreOf d R ids vs → length vs ≡ length ids

@@ -1,12 +1,11 @@
 -- What is marked rises, comes from what is wanted, and is found by going down from the greatest.
-use Rattle.std.proofs.Common.{◌≡◌, ◌⊎◌, ℕ, zero, suc, ◌+◌, ◌*◌, ◌<◌, ◌≤◌, ◌^◌, Bool, true, false, cond, eqb, ltb, List, [], ◌∷◌, ◌++◌, length, Option, Some, None, slice_get, refl, sym, ap, subst, ◌∙◌, append_assoc, append-nil, arith, inl, inr}
+use Rattle.std.proofs.Common.{◌≡◌, ◌⊎◌, ℕ, zero, suc, ◌<◌, ◌≤◌, ◌^◌, Bool, true, false, cond, List, [], ◌∷◌, ◌++◌, length, slice_get, refl, sym, ap, subst, ◌∙◌, append_assoc, append-nil, arith, inl, inr}
 use Rattle.std.specs.List.{flat_map, AllByRecursion}
-use Rattle.std.proofs.lemmas.Bool.{cases_lt}
 use Rattle.m5_region.specs.Region.{Object}
 use Rattle.m5_dictionary.specs.Dictionaries.{Dictionaries}
-use Rattle.m5_message.specs.Packing.{Reached, same, has, place_in, reaches, wanted_ids, marked, IsFit, AreFit}
+use Rattle.m5_message.specs.Packing.{Reached, same, has, reaches, wanted_ids, marked, IsFit, AreFit}
 use Rattle.m5_marshal.specs.code.Keys.{rank, IsNarrow, Rising, IsWhole}
-use Rattle.m5_message.proofs.Marks.{same_is, same_self, has_left, has_right, has_head, has_tail, AllHas, Closed, closed_marked, marked_has, fit_below, all_left, all_right}
+use Rattle.m5_message.proofs.Marks.{same_is, has_left, has_right, has_head, has_tail, Closed, closed_marked, fit_below, all_left}
 
 -- ---- pairs in lists
 

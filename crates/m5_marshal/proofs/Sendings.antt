@@ -1,24 +1,24 @@
 -- What is known of a thread that has bytes, and how its message is spelled.
-use Rattle.std.proofs.Common.{◌≡◌, ◌⊎◌, ℕ, zero, suc, ◌+◌, ◌-◌, ◌<◌, ◌≤◌, ◌^◌, Bool, true, false, cond, eqb, List, [], ◌∷◌, ◌++◌, length, map, Option, Some, None, slice_get, refl, sym, ap, subst, ◌∙◌, append_assoc, append-nil, arith, inl, inr, pos}
-use Rattle.std.specs.List.{flat_map, AllByRecursion}
+use Rattle.std.proofs.Common.{◌≡◌, ℕ, zero, suc, ◌-◌, ◌<◌, Bool, true, false, cond, eqb, List, [], ◌∷◌, ◌++◌, length, map, Option, Some, None, slice_get, refl, sym, ap, subst, ◌∙◌, append_assoc, inl, inr, pos}
+use Rattle.std.specs.List.{flat_map}
 use Rattle.std.proofs.lemmas.Bool.{eqb-true}
 use Rattle.std.proofs.lemmas.List.{length-map}
 use Rattle.std.proofs.lemmas.Option.{slice_get-map, slice_get_within}
 use Rattle.m5_region.specs.declared.value.Value.{Value}
 use Rattle.m5_region.specs.declared.value.Value.TheVariants as values
 use Rattle.m5_region.specs.declared.queue.Ready.{Ready}
-use Rattle.m5_region.specs.Region.{Object, ArrayOf, TextOf}
+use Rattle.m5_region.specs.Region.{Object, ArrayOf}
 use Rattle.m5_terms.specs.declared.types.World.{World}
 use Rattle.m5_dictionary.specs.declared.line.TypeLine.{TypeLine}
 use Rattle.m5_dictionary.specs.declared.line.TypeLine.TheVariants as lines
 use Rattle.m5_dictionary.specs.Dictionaries.{Dictionaries, Entrance, IsDictionaries}
 use Rattle.m5_message.specs.Reading.{Opening, Parts, entered, is_object_line}
-use Rattle.m5_message.specs.Message.{Message, label_in, label_stands, stands_there, argument_of, line_at, rooted, root_of}
-use Rattle.m5_message.specs.Spelling.{short_of, ids_bytes, contents_bytes, value_bytes, argument_bytes, body_bytes, opening_in, IsOf, IsObjectOf, Older}
-use Rattle.m5_message.specs.Packing.{Reached, has, place_in, target, value_reaches, reaches, wanted_ids, marked, sent_value, sent, Sending, sent_from, message_of, IsFit, IsSendable, packed}
+use Rattle.m5_message.specs.Message.{label_in, label_stands, stands_there, argument_of, line_at, rooted, root_of}
+use Rattle.m5_message.specs.Spelling.{short_of, ids_bytes, contents_bytes, argument_bytes, body_bytes, opening_in}
+use Rattle.m5_message.specs.Packing.{Reached, has, place_in, target, value_reaches, reaches, wanted_ids, marked, sent_value, sent, Sending, sent_from, IsFit, IsSendable, packed}
 use Rattle.m5_message.proofs.Marks.{has_left, has_right, has_head, has_tail, marked_has, place_there, value_below}
 use Rattle.m5_message.proofs.Packs.{packs}
-use Rattle.m5_marshal.specs.code.Keys.{reached, id_of, HasMore, AllHas, IsSent, Below, Entered, sending, sent_bytes}
+use Rattle.m5_marshal.specs.code.Keys.{reached, id_of, HasMore, IsSent, Below, Entered, sending, sent_bytes}
 use Rattle.m5_marshal.specs.declared.key.Key.{Key}
 use Rattle.m5_marshal.specs.Pack.{IsThread}
 use Rattle.m5_marshal.proofs.Marked.{has_cases, all_at, all_of}

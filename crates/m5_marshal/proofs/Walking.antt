@@ -1,12 +1,12 @@
 -- Going down from the greatest of what is to be marked gives what is marked.
-use Rattle.std.proofs.Common.{◌≡◌, ◌⊎◌, ℕ, ◌+◌, ◌-◌, ◌*◌, ◌<◌, ◌≤◌, ◌^◌, Bool, true, false, List, [], ◌∷◌, ◌++◌, length, map, refl, sym, ap, subst, ◌∙◌, append_assoc, append-nil, length-append, arith, inl, inr}
+use Rattle.std.proofs.Common.{◌≡◌, ◌⊎◌, ◌<◌, ◌≤◌, true, false, List, [], ◌∷◌, ◌++◌, length, refl, sym, ap, subst, ◌∙◌, append_assoc, append-nil, length-append, arith, inl, inr}
 use Rattle.std.specs.List.{flat_map}
 use Rattle.m5_region.specs.Region.{Object}
 use Rattle.m5_dictionary.specs.Dictionaries.{Dictionaries}
 use Rattle.m5_message.specs.Packing.{Reached, has, reaches}
-use Rattle.m5_message.proofs.Marks.{has_left, has_right, has_head, has_tail}
-use Rattle.m5_marshal.specs.code.Keys.{HasMore, rank, IsNarrow, Rising, IsWhole}
-use Rattle.m5_marshal.proofs.Marked.{has_cases, head_cases, FromOne, One, from_one, to_one, rank_is, rising_across}
+use Rattle.m5_message.proofs.Marks.{has_left, has_right, has_head}
+use Rattle.m5_marshal.specs.code.Keys.{HasMore, rank, Rising, IsWhole}
+use Rattle.m5_marshal.proofs.Marked.{has_cases, head_cases, One, from_one, to_one, rising_across}
 
 data Ends (xs : List Reached) : Type 0 where
   Empty : xs ≡ [] → Ends xs

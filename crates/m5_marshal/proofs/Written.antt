@@ -1,24 +1,22 @@
 -- What is written of an object, field by field, and of all objects one after the other.
-use Rattle.std.proofs.Common.{◌≡◌, ℕ, zero, suc, ◌+◌, ◌<◌, ◌≤◌, true, cond, eqb, List, [], ◌∷◌, ◌++◌, length, map, take, drop, Option, Some, None, Bool, false, slice_get, refl, sym, ap, subst, ◌∙◌, append_assoc, append-nil, length-append, arith, pos}
-use Rattle.std.specs.Prelude.{unwrap_or}
-use Rattle.std.specs.List.{AllByRecursion, flat_map}
+use Rattle.std.proofs.Common.{◌≡◌, ℕ, zero, suc, ◌+◌, true, cond, eqb, List, [], ◌∷◌, ◌++◌, length, map, take, drop, Option, Some, None, Bool, false, slice_get, refl, sym, ap, subst, ◌∙◌, append_assoc, append-nil, arith, pos}
 use Rattle.std.specs.Int.{w32, to_be_bytes}
 use Rattle.std.proofs.lemmas.List.{drop_at}
 use Rattle.m5_region.specs.declared.value.Value.{Value}
 use Rattle.m5_region.specs.declared.value.Value.TheVariants as values
-use Rattle.m5_region.specs.Region.{Object, ArrayOf, TextOf, fields_in, fields_of}
+use Rattle.m5_region.specs.Region.{Object, ArrayOf, TextOf}
 use Rattle.m5_dictionary.specs.declared.line.TypeLine.{TypeLine}
 use Rattle.m5_dictionary.specs.declared.line.TypeLine.TheVariants as lines
 use Rattle.m5_dictionary.specs.Dictionaries.{Dictionaries, Entrance}
 use Rattle.m5_message.specs.Reading.{Opening, Whole, Parts, side, cell_of_list, entered, is_object_line}
-use Rattle.m5_message.specs.Spelling.{short_of, value_bytes, values_bytes, opening_bytes, opening_in, fields_behind, closing_bytes, opened_bytes, content_bytes, contents_bytes, ids_bytes, IsOf, AreOf, Closes}
-use Rattle.m5_message.specs.Packing.{Reached, IsFit, value_reaches, values_reach, opened_reaches, object_reaches, reaches, sent_value, sent_values, sent_opened, sent_object, sent}
+use Rattle.m5_message.specs.Spelling.{short_of, values_bytes, opening_bytes, opening_in, fields_behind, closing_bytes, opened_bytes, content_bytes, contents_bytes, ids_bytes, IsOf, AreOf}
+use Rattle.m5_message.specs.Packing.{Reached, IsFit, value_reaches, values_reach, opened_reaches, object_reaches, reaches, sent_values, sent_opened, sent_object, sent}
 use Rattle.m5_message.proofs.Marks.{all_left, all_right}
 use Rattle.m5_marshal.specs.declared.key.Key.{Key}
 use Rattle.m5_marshal.specs.declared.opening.Opened.{Opened}
 use Rattle.m5_marshal.specs.declared.opening.Opened.TheVariants as kept
-use Rattle.m5_marshal.specs.code.Opened.{opening, others_of}
-use Rattle.m5_marshal.specs.code.Keys.{reached, marks, id_of, OpensAs, AllHas, IsSent, AreSent, PartsSent, sent_bytes, fields_bytes, parts_bytes, values_behind}
+use Rattle.m5_marshal.specs.code.Opened.{others_of}
+use Rattle.m5_marshal.specs.code.Keys.{reached, id_of, OpensAs, AllHas, IsSent, AreSent, PartsSent, sent_bytes, fields_bytes, parts_bytes, values_behind}
 use Rattle.m5_marshal.proofs.Fields.{fit_closes}
 
 some_is : {A : Type 0} (x y : A) → Some x ≡ Some y → x ≡ y

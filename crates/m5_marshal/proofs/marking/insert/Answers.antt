@@ -1,4 +1,4 @@
-use Rattle.std.proofs.Common.{◌∙◌, ap, sym, subst, List, [], ◌∷◌}
+use Rattle.std.proofs.Common.{sym, subst, List, [], ◌∷◌}
 use Rattle.m5_marshal.specs.declared.key.Key.{Key}
 use Rattle.m5_marshal.specs.code.Keys.{reached, marks, HasMore}
 use Rattle.m5_marshal.proofs.KeySets.{insert_more}

@@ -1,9 +1,9 @@
-use Rattle.std.proofs.Common.{◌≡◌, ℕ, ◌+◌, ◌-◌, ◌<◌, true, false, List, [], ◌∷◌, ◌++◌, length, map, reverse, sym, ap, subst, ◌∙◌, arith}
+use Rattle.std.proofs.Common.{◌≡◌, ◌<◌, true, false, List, [], ◌∷◌, length, reverse, sym, ap, subst, ◌∙◌, arith}
 use Rattle.std.proofs.lemmas.List.{length-map, length-reverse, reverse-append}
-use Rattle.m5_message.specs.Packing.{Reached, has, reaches, marked}
+use Rattle.m5_message.specs.Packing.{Reached, has, marked}
 use Rattle.m5_message.proofs.Marks.{marked_has, has_left, has_right, has_head}
 use Rattle.m5_marshal.specs.declared.key.Key.{Key}
-use Rattle.m5_marshal.specs.code.Keys.{reached, marks, to_mark, rank, IsNarrow, HasMore, HasAll}
+use Rattle.m5_marshal.specs.code.Keys.{reached, marks, to_mark, IsNarrow, HasAll}
 use Rattle.m5_marshal.proofs.Marked.{all_at, marked_whole}
 use Rattle.m5_marshal.proofs.KeySets.{marks_end, keys_below, no_keys}
 use Rattle.m5_marshal.proofs.Walking.{Walk, walk_begins, walk_goes_on, walk_more, walk_ends, walk_in}

@@ -1,6 +1,5 @@
-use Rattle.std.proofs.Common.{◌≡◌, ◌+◌, ◌∷◌, ◌<◌, length, take, sym, subst, arith, List, []}
-use Rattle.m5_message.specs.Reading.{is_object_line}
-use Rattle.m5_message.specs.Packing.{Reached, value_reaches, values_reach}
+use Rattle.std.proofs.Common.{◌+◌, length, sym, subst, arith, List}
+use Rattle.m5_message.specs.Packing.{Reached}
 use Rattle.m5_marshal.specs.code.Opened.{others_of}
 use Rattle.m5_marshal.specs.code.Keys.{to_mark, HasMore, values_behind}
 use Rattle.m5_marshal.proofs.KeySets.{more_none, more_more}

@@ -1,8 +1,5 @@
-use Rattle.std.proofs.Common.{◌≡◌, ◌∙◌, sym, ap, subst}
-use Rattle.m5_terms.specs.declared.types.World.{World}
-use Rattle.m5_message.specs.Packing.{Sending, IsSendable, packed}
-use Rattle.m5_marshal.specs.Pack.{IsThread}
-use Rattle.m5_marshal.specs.code.Keys.{sending}
+use Rattle.std.proofs.Common.{◌∙◌, sym, ap, subst}
+use Rattle.m5_message.specs.Packing.{IsSendable, packed}
 use Rattle.m5_marshal.proofs.Sendings.{entered_at, thread_is}
 use Rattle.m5_marshal.proofs.packing.pack.Goals as goal
 

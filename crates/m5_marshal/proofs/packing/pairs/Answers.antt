@@ -1,7 +1,6 @@
-use Rattle.std.proofs.Common.{◌≡◌, ◌∷◌, ◌++◌, ◌∙◌, ◌<◌, [], true, length, sym, ap, subst, List}
+use Rattle.std.proofs.Common.{◌∷◌, ◌∙◌, ◌<◌, [], length, sym, subst, List}
 use Rattle.m5_message.specs.Reading.{is_object_line}
-use Rattle.m5_message.specs.Packing.{Reached, has, value_reaches, marked, sent_from, AreFit}
-use Rattle.m5_dictionary.specs.Dictionaries.{Dictionaries}
+use Rattle.m5_message.specs.Packing.{Reached, value_reaches, AreFit}
 use Rattle.std.proofs.Common.{slice_get}
 use Rattle.m5_marshal.specs.declared.key.Key.{Key}
 use Rattle.m5_marshal.specs.code.Keys.{reached, marks, to_mark, HasMore, sending}

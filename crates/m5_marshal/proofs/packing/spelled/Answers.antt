@@ -1,7 +1,7 @@
-use Rattle.std.proofs.Common.{◌≡◌, ◌∷◌, ◌++◌, ◌∙◌, ◌-◌, ℕ, [], true, length, map, sym, ap, subst, List, slice_get}
+use Rattle.std.proofs.Common.{◌≡◌, ◌∷◌, ◌++◌, ◌∙◌, ◌-◌, ℕ, [], true, length, map, sym, ap, subst, List}
 use Rattle.std.proofs.lemmas.List.{length-map}
 use Rattle.m5_message.specs.Spelling.{short_of, ids_bytes, contents_bytes}
-use Rattle.m5_message.specs.Packing.{Reached, has, place_in, sent, sent_from}
+use Rattle.m5_message.specs.Packing.{Reached, has, place_in, sent}
 use Rattle.m5_marshal.specs.code.Keys.{reached, marks, id_of, IsSent, sending, sent_bytes}
 use Rattle.m5_marshal.proofs.Sendings.{code_sent, argument_sent, packed_is, joined}
 use Rattle.m5_marshal.proofs.packing.spelled.Goals as goal

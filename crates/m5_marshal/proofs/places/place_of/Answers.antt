@@ -1,6 +1,5 @@
-use Rattle.std.proofs.Common.{◌≡◌, ◌+◌, ◌-◌, ◌/◌, ◌≤◌, ◌<◌, true, ◌∙◌, sym, ap, is_lt, length, arith, Some, slice_get, slice_index_or}
+use Rattle.std.proofs.Common.{◌≡◌, ◌+◌, ◌-◌, ◌/◌, ◌∙◌, sym, ap, is_lt, length, arith, slice_index_or}
 use Rattle.std.proofs.lemmas.List.{length-map}
-use Rattle.m5_message.specs.Packing.{place_in}
 use Rattle.m5_message.proofs.Marks.{place_within}
 use Rattle.m5_marshal.specs.code.Keys.{reached, marks}
 use Rattle.m5_marshal.proofs.PlaceIn.{has_get, place_above, place_not_above, marks_get, index_get}

@@ -1,4 +1,4 @@
-use Rattle.std.proofs.Common.{◌≡◌, ◌++◌, ◌∙◌, ◌∷◌, ◌+◌, ◌-◌, ◌%◌, ◌/◌, [], ap, sym, append_assoc, List, ℕ, arith}
+use Rattle.std.proofs.Common.{◌++◌, ◌∙◌, ◌∷◌, ◌+◌, ◌-◌, ◌%◌, ◌/◌, [], ap, sym, append_assoc, List, ℕ, arith}
 use Rattle.m5_message.specs.Spelling.{groups_of}
 use Rattle.m5_marshal.proofs.Spells.{groups_more}
 use Rattle.m5_marshal.proofs.spell.+put_groups.Goals as goal

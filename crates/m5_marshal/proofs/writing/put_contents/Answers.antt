@@ -1,4 +1,4 @@
-use Rattle.std.proofs.Common.{◌≡◌, ◌+◌, ◌<◌, ◌∙◌, ◌++◌, ◌∷◌, [], suc, ℕ, true, length, map, take, sym, ap, append_assoc, arith, List, slice_get, slice_index_or, Some}
+use Rattle.std.proofs.Common.{◌≡◌, ◌+◌, ◌∙◌, ◌++◌, suc, ℕ, true, length, map, take, sym, ap, append_assoc, arith, List, slice_index_or}
 use Rattle.std.proofs.lemmas.List.{length-map, length-take}
 use Rattle.m5_message.specs.Packing.{Reached, has, reaches, sent}
 use Rattle.m5_message.specs.Spelling.{content_bytes, contents_bytes}

@@ -1,4 +1,4 @@
-use Rattle.std.proofs.Common.{◌≡◌, ◌+◌, ◌∙◌, ◌++◌, ◌∷◌, [], suc, ℕ, length, map, take, sym, ap, append_assoc, arith, List, slice_index_or}
+use Rattle.std.proofs.Common.{◌≡◌, ◌+◌, ◌∙◌, ◌++◌, suc, ℕ, map, take, sym, ap, append_assoc, arith, List, slice_index_or}
 use Rattle.std.specs.Int.{w32, to_be_bytes}
 use Rattle.m5_message.specs.Packing.{Reached}
 use Rattle.m5_message.specs.Spelling.{ids_bytes}
