@@ -1,0 +1,4 @@
+mod Growing
+mod Adding
+mod Ending
+mod Entering
