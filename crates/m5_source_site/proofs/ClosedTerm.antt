@@ -6,35 +6,7 @@ use Rattle.m5_terms.specs.Substitution.{unary_binders, binary_binders, second_bi
 use Rattle.m5_terms.specs.declared.form.LeafForm.{LeafForm}
 use Rattle.m5_terms.specs.declared.form.LeafForm.TheVariants as leaf_form
 use Rattle.m5_terms.specs.Closed.{closed_under, closed_leaf, IsClosed}
-use Rattle.m5_terms.proofs.ClosedTerms.{both, left, right, either, or-left, or-right, everywhere}
-
--- whichever is among these is among those
-Within : List ℕ → List ℕ → Type 0
-Within xs ys = (y : ℕ) → IsTrue (among y xs) → IsTrue (among y ys)
-
-grow : (bs xs ys : List ℕ) → Within xs ys → Within (bs ++ xs) (bs ++ ys)
-unfolding Within
-grow [] xs ys h = h
-grow (b ∷ bs) xs ys h = λ y e. either (y == b) (among y (bs ++ xs)) (y == b || among y (bs ++ ys)) (or-left (y == b) (among y (bs ++ ys))) (λ k. or-right (y == b) (among y (bs ++ ys)) (grow bs xs ys h y k)) e
-
-leaf-within : (f : LeafForm) (xs ys : List ℕ) → Within xs ys → IsTrue (closed_leaf xs f) → IsTrue (closed_leaf ys f)
-unfolding Within
-leaf-within (leaf_form.Var x) xs ys h e = h x e
-leaf-within (leaf_form.Valid x) xs ys h e = h x e
-leaf-within _ xs ys h e = refl
-
-within : (e : Expression) (xs ys : List ℕ) → Within xs ys → IsTrue (closed_under xs e) → IsTrue (closed_under ys e)
-within (leaf f) xs ys h e = leaf-within f xs ys h e
-within (unary f a) xs ys h e = within a _ _ (grow (unary_binders f) xs ys h) e
-within (binary f a b) xs ys h e =
-    both (closed_under ys a) _ (within a xs ys h (left (closed_under xs a) _ e))
-    (within b _ _ (grow (binary_binders f) xs ys h) (right (closed_under xs a) _ e))
-within (ternary f a b c) xs ys h e =
-    let e2 = right (closed_under xs a) _ e in
-    both (closed_under ys a) _ (within a xs ys h (left (closed_under xs a) _ e))
-    (both (closed_under (second_binders f ++ ys) b) _
-    (within b _ _ (grow (second_binders f) xs ys h) (left (closed_under (second_binders f ++ xs) b) _ e2))
-    (within c _ _ (grow (third_binders f) xs ys h) (right (closed_under (second_binders f ++ xs) b) _ e2)))
+use Rattle.m5_terms.proofs.ClosedTerms.{Within, grow, within, both, left, right, either, or-left, or-right, everywhere}
 
 -- whichever is among these is the variable or among those
 Beside : ℕ → List ℕ → List ℕ → Type 0

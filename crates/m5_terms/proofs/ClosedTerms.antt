@@ -35,7 +35,7 @@ or-right true q h = refl
 or-right false q h = h
 
 -- whichever is among these is among those
-pub Within : List ℕ → List ℕ → Type 0
+unfoldable pub Within : List ℕ → List ℕ → Type 0
 Within xs ys = (y : ℕ) → IsTrue (among y xs) → IsTrue (among y ys)
 
 pub grow : (bs xs ys : List ℕ) → Within xs ys → Within (bs ++ xs) (bs ++ ys)

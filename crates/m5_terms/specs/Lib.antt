@@ -5,6 +5,7 @@ pub mod TermMeaning
 pub mod Substitution
 pub mod Opened
 pub mod Size
+pub mod Depth
 pub mod Primitives
 pub mod Closed
 pub mod Worlds

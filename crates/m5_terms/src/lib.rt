@@ -7,6 +7,7 @@ pub mod build;
 pub mod closed;
 pub mod copy;
 pub mod decimal;
+pub mod depth;
 pub mod form;
 pub mod item;
 pub mod listed;

@@ -4,8 +4,10 @@ ghost use Rattle.std.specs.Prelude.{◌≡◌, ◌^◌, ◌-◌, min, IsTrue, If
 ghost use Rattle.m5_terms.specs.TermMeaning.{term_meaning};
 ghost use Rattle.m5_terms.specs.Size.{node_size};
 ghost use Rattle.m5_terms.specs.Closed.{IsClosed};
+ghost use Rattle.m5_terms.specs.Depth.{depth};
 
 use crate::closed::is_known_closed;
+use crate::depth::depth_of_node;
 use crate::size::size_of_node;
 use crate::term::Term;
 use std::alloc::{AllocError, Global};
@@ -56,13 +58,15 @@ impl Node {
     }
 }
 
-/// A node on the heap, which contracts see as its term. Terms that have it in common share it. Beside it stand its size, and
-/// whether it is known to have no free variable, so that neither a look at the size nor a substitution goes through it again.
+/// A node on the heap, which contracts see as its term. Terms that have it in common share it. Beside it stand its size, its
+/// depth, and whether it is known to have no free variable, so that neither a look at those nor a substitution goes through
+/// it again.
 #[cycle(node)]
 #[derive(Drop)]
 pub struct NodeBox {
     inner: Rc<Node>,
     held_size: u64,
+    held_depth: u64,
     known_closed: bool,
 }
 
@@ -71,6 +75,7 @@ impl Model for NodeBox {
     ghost use Rattle.m5_terms.specs.Expression.{Expression, expression_code, node_count};
     ghost use Rattle.m5_terms.specs.Size.{node_size};
     ghost use Rattle.m5_terms.specs.Closed.{IsClosed};
+    ghost use Rattle.m5_terms.specs.Depth.{depth};
 
     ghost Value = { Expression };
 
@@ -78,7 +83,7 @@ impl Model for NodeBox {
 
     ghost view = { λ b. b.inner.value };
 
-    ghost invariant = { λ b. (b.held_size ≡ min (node_size b.inner.value) (2 ^ 64 - 1)) × (IsTrue b.known_closed → IsClosed b.inner.value) };
+    ghost invariant = { λ b. (b.held_size ≡ min (node_size b.inner.value) (2 ^ 64 - 1)) × (b.held_depth ≡ min (depth b.inner.value) (2 ^ 64 - 1)) × (IsTrue b.known_closed → IsClosed b.inner.value) };
 
     ghost size = { λ t. 2 * node_count t + 1 };
 
@@ -92,10 +97,12 @@ impl NodeBox {
         ensures { IfOk result (λ b. b ≡ node) }
     {
         let held_size = size_of_node(&node);
+        let held_depth = depth_of_node(&node);
         let known_closed = is_known_closed(&node);
         Ok(NodeBox {
             inner: Rc::new(alloc, node)?,
             held_size,
+            held_depth,
             known_closed,
         })
     }
@@ -106,9 +113,11 @@ impl NodeBox {
         ensures { IfOk result (λ b. b ≡ node) }
     {
         let held_size = size_of_node(&node);
+        let held_depth = depth_of_node(&node);
         Ok(NodeBox {
             inner: Rc::new(alloc, node)?,
             held_size,
+            held_depth,
             known_closed: true,
         })
     }
@@ -126,6 +135,7 @@ impl NodeBox {
         Ok(NodeBox {
             inner: self.inner.clone()?,
             held_size: self.held_size,
+            held_depth: self.held_depth,
             known_closed: self.known_closed,
         })
     }
@@ -135,6 +145,13 @@ impl NodeBox {
         ensures { result ≡ min (node_size self.now) (2 ^ 64 - 1) }
     {
         self.held_size
+    }
+
+    /// The depth of the term; `u64::MAX` where it is deeper.
+    pub fn depth(&self) -> u64
+        ensures { result ≡ min (depth self.now) (2 ^ 64 - 1) }
+    {
+        self.held_depth
     }
 
     /// Whether the term is known to have no free variable. A closed function may be unknown.
