@@ -1,20 +1,13 @@
--- No term is within a depth of no nodes; and what holds of each item of a list, item by item.
-use Rattle.std.proofs.Common.{◌≡◌, ℕ, ◌+◌, ◌<◌, Bool, true, false, ◌&&◌, List, length, take, get_or, nat_le, Some, refl, sym, ap, ◌∙◌, arith}
-use Rattle.std.specs.Prelude.{slice_get}
+-- The depth that a node knows; and what holds of each item of a list, item by item.
+use Rattle.std.proofs.Common.{◌≡◌, ℕ, ◌+◌, ◌<◌, Bool, true, false, ◌&&◌, List, length, take, get_or, nat_le, Some, sym, ap, ◌∙◌, arith}
+use Rattle.std.specs.Prelude.{slice_get, min, ◌^◌, ◌-◌}
 use Rattle.std.specs.List.{list_all}
 use Rattle.std.proofs.lemmas.List.Folds.{list_all_more, list_all_at}
 use Rattle.std.proofs.lemmas.Option.{slice_get-get_or}
-use Rattle.m5_terms.specs.Expression.{Expression, leaf, unary, binary, ternary}
-use Rattle.m5_replay.specs.Depth.{depth}
 
-none-below : (n m : ℕ) → m ≡ 0 → false ≡ nat_le (1 + n) m
-none-below n m h = grind arith
-
-pub none-within : (e : Expression) (m : ℕ) → m ≡ 0 → false ≡ nat_le (depth e) m
-none-within (leaf f) m h = rw h refl
-none-within (unary f a) m h = none-below _ m h
-none-within (binary f a b) m h = none-below _ m h
-none-within (ternary f a b c) m h = none-below _ m h
+-- the depth that a node knows, which ends at the greatest number, tells whether it is shallow
+pub held : (n d : ℕ) → d ≡ min n (2 ^ 64 - 1) → nat_le d 4096 ≡ nat_le n 4096
+held n d h = grind arith
 
 same-some : {A : Type 0} (x y : A) → Some x ≡ Some y → x ≡ y
 same-some x y e = cc

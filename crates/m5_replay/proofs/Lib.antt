@@ -1,5 +1,7 @@
 pub mod Lines
 pub mod Depths
+pub mod Fills
+pub mod Kept
 pub mod Named
 pub mod Openings
 pub mod Resting

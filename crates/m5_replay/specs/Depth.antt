@@ -1,18 +1,13 @@
--- How deep the terms of a site are: the number of nodes from the root to the deepest leaf, both included.
-use Rattle.std.specs.Prelude.{ℕ, ◌+◌, max, Bool, true, ◌&&◌, nat_le}
+-- Whether the terms of a site are within the budget of depth.
+use Rattle.std.specs.Prelude.{ℕ, Bool, true, ◌&&◌, nat_le}
 use Rattle.std.specs.List.{list_all}
-use Rattle.m5_terms.specs.Expression.{Expression, leaf, unary, binary, ternary}
+use Rattle.m5_terms.specs.Expression.{Expression}
+use Rattle.m5_terms.specs.Depth.{depth}
 use Rattle.m5_terms.specs.declared.thread.Frame.{Frame}
 use Rattle.m5_terms.specs.declared.thread.Frame.TheVariants.{Part, Return}
 use Rattle.m5_terms.specs.declared.thread.Focus.{Focus}
 use Rattle.m5_terms.specs.declared.thread.Focus.TheVariants.{Eval, Returned}
 use Rattle.m5_meaning.specs.Site.{Thread, Site}
-
-abbrev pub depth : Expression → ℕ
-depth (leaf f) = 1
-depth (unary f a) = 1 + depth a
-depth (binary f a b) = 1 + max (depth a) (depth b)
-depth (ternary f a b c) = 1 + max (depth a) (max (depth b) (depth c))
 
 -- the budget of a site's depth
 abbrev pub most_depth : ℕ

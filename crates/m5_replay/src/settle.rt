@@ -1,6 +1,7 @@
 //! Settling a site: its local steps to its next ask, or to the first moment at which a stop's condition holds.
 
 ghost use Rattle.std.specs.Prelude.{◌≡◌, ◌+◌, ◌-◌, ◌<◌, ◌≤◌, ◌^◌, [], IfOk, IsTrue, MatchOption, Option, Some, false, ◌↔◌};
+ghost use Rattle.m5_terms.specs.Machine.{goes};
 ghost use Rattle.m5_terms.specs.declared.types.World.{World as WorldOf};
 ghost use Rattle.m5_terms.specs.declared.ask.Cause.{Cause as CauseOf};
 ghost use Rattle.m5_meaning.specs.Site.{Program as ProgramOf, Site as SiteOf};
@@ -13,7 +14,7 @@ ghost use Rattle.m5_source_site.specs.Waiting.{Stands, KeepsClosed};
 ghost use Rattle.m5_replay.specs.Settling.{most_weight, StopsHere, IsWithin};
 ghost use Rattle.m5_replay.specs.code.Looking.{HasLimits, IsLooked, IsClosedLooked, IsCounted, IsSettled, IsClosedSettling};
 
-use crate::depth::is_shallow_site;
+use crate::depth::{is_shallow_site, stays_shallow};
 use crate::limits::Limits;
 use m5_sites::resume::check_room;
 use m5_source_site::item::SiteAsk;
@@ -153,6 +154,17 @@ fn is_within(before: u64, start: u64, site: &Site) -> bool
     is_shallow_site(site)
 }
 
+/// The same after one local step more from a moment within the budget: it looks at what the step made alone.
+fn stays_within(before: u64, start: u64, site: &Site) -> bool
+    ensures within { (P : ProgramOf) (w : WorldOf) (x y : SiteOf) → start ≡ x.weight → site_next P w y ≡ goes site.now → IsWithin before x y → IsTrue result → IsWithin before x site.now }
+    ensures beyond { (P : ProgramOf) (w : WorldOf) (x y : SiteOf) → start ≡ x.weight → site_next P w y ≡ goes site.now → IsWithin before x y → result ≡ false → IsWithin before x site.now → ⊥ }
+{
+    if !is_light(before, start, site.weight()) {
+        return false;
+    }
+    stays_shallow(site)
+}
+
 /// Settles the site, which is at the world `here`, where all that was run before weighs so much.
 pub fn settle(
     alloc: Global,
@@ -168,15 +180,19 @@ pub fn settle(
     ensures closed { IfOk result (IsClosedSettling program.now here) }
 {
     let start = site.weight();
+    if !is_within(before, start, &site) {
+        return Ok(Settling::Beyond);
+    }
     let mut site = site;
     'steps: loop {
         let weight = site.weight();
-        if !is_within(before, start, &site) {
+        let next = match look(alloc, program, limits, here, cause, site)? {
+            Looked::Goes(next) => next,
+            Looked::Ends(settled) => return Ok(Settling::Ends(weight, settled)),
+        };
+        if !stays_within(before, start, &next) {
             return Ok(Settling::Beyond);
         }
-        match look(alloc, program, limits, here, cause, site)? {
-            Looked::Goes(next) => site = next,
-            Looked::Ends(settled) => return Ok(Settling::Ends(weight, settled)),
-        }
+        site = next;
     }
 }
