@@ -122,7 +122,7 @@ pushed_thread code os ts v r c h = All-push (CanRun code os) ts (record { code =
 closure_thread : (code : Flat) (os : List Object) (ts : List Ready) (v : Value) (b : Bool) → b ≡ is_closure code os v → (m : Made) (ts' : List Ready) → Refers os v → new_thread_if b ts v ≡ (m, ts') → All (CanRun code os) ts → All (CanRun code os) ts'
 closure_thread code os ts v false b m ts' r e h = subst (All (CanRun code os)) (ap (λ (x : Made × List Ready). x.1) e) h
 closure_thread code os ts v true b m ts' r e h =
-    elim (either {X = Made × List Ready} (nat_lt (length ts) MOST_ITEMS) (Gives Null, ts ++ record { code = v; argument = Null } ∷ []) (NoTable, ts) (m, ts') e) [
+    elim (either {X = Made × List Ready} (nat_lt (suc (length ts)) MOST_ITEMS) (Gives Null, ts ++ record { code = v; argument = Null } ∷ []) (NoTable, ts) (m, ts') e) [
       | inl p ↦ subst (All (CanRun code os)) (sym (ap (λ (x : Made × List Ready). x.1) p)) (pushed_thread code os ts v r (sym b) h)
       | inr p ↦ subst (All (CanRun code os)) (sym (ap (λ (x : Made × List Ready). x.1) p)) h
     ]

@@ -1,5 +1,5 @@
 -- The table of instructions: what each makes of a bench.
-use Rattle.std.specs.Prelude.{ℕ, ℤ, pos, negsuc, ◌-◌, List, [], ◌∷◌, ◌++◌, length, map, Option, Some, None, Bool, true, false, slice_get, slice_set, nat_lt, bytes_eq, unwrap_or, is_some, int_lt, if◌then◌else◌}
+use Rattle.std.specs.Prelude.{ℕ, suc, ℤ, pos, negsuc, ◌-◌, List, [], ◌∷◌, ◌++◌, length, map, Option, Some, None, Bool, true, false, slice_get, slice_set, nat_lt, bytes_eq, unwrap_or, is_some, int_lt, if◌then◌else◌}
 use Rattle.std.specs.List.{list_all}
 use Rattle.std.specs.Ordering.{int_eq}
 use Rattle.std.specs.Fmt.{signed_decimal}
@@ -121,11 +121,11 @@ set_cell cells None v = (NoCase, cells)
 set_cell cells (Some place) None = (NoCase, cells)
 set_cell cells (Some place) (Some v) = (Gives values.Null, slice_set cells place v)
 
--- a thread more, of a closure, where there is room
+-- a thread more, of a closure, where the threads that wait and the one that runs leave room
 abbrev pub new_thread_if : Bool → List Ready → Value → Made × List Ready
 new_thread_if false threads v = (NoCase, threads)
 new_thread_if true threads v =
-    if nat_lt (length threads) MOST_ITEMS
+    if nat_lt (suc (length threads)) MOST_ITEMS
     then (Gives values.Null, threads ++ record { code = v; argument = values.Null } ∷ [])
     else (NoTable, threads)
 

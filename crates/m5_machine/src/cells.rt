@@ -9,6 +9,7 @@ use crate::closure::entry;
 use crate::made::Made;
 use crate::operand::int_in;
 use m5_region::cells::Cells;
+use m5_region::limits::MOST_ITEMS;
 use m5_region::queue::{Queue, Ready};
 use m5_region::region::Region;
 use m5_region::slots::Slots;
@@ -72,7 +73,7 @@ pub(crate) fn set_cell(cells: &mut Cells, slots: &Slots, slot: u16, value: u16) 
     Made::Gives(Value::Null)
 }
 
-/// A thread more, which enters the closure of a slot with null.
+/// A thread more, which enters the closure of a slot with null. The thread that runs takes a place too.
 pub(crate) fn new_thread(
     code: &Blocks,
     region: &Region,
@@ -94,8 +95,9 @@ pub(crate) fn new_thread(
         code: closure,
         argument: Value::Null,
     };
-    if threads.push(thread) {
-        return Made::Gives(Value::Null);
+    if threads.len() as usize + 1 >= MOST_ITEMS {
+        return Made::NoTable;
     }
-    Made::NoTable
+    let _ = threads.push(thread);
+    Made::Gives(Value::Null)
 }
