@@ -1,5 +1,5 @@
 -- What is written after types were added.
-use Rattle.std.proofs.Common.{◌≡◌, ℕ, List, Some, length, refl, sym, ap, ◌∙◌, subst, arith}
+use Rattle.std.proofs.Common.{◌≡◌, List, length, refl, sym, ap, ◌∙◌, subst, arith}
 use Rattle.m5_terms.specs.TypeExpression.{TypeExpression}
 use Rattle.m5_cps.specs.Blocks as blocks
 use Rattle.m5_cps.specs.Steps.{code_at}

@@ -1,12 +1,11 @@
 -- The blocks of functions and of main, and a program's whole.
-use Rattle.std.proofs.Common.{◌≡◌, ◌==◌, ℕ, zero, suc, ◌+◌, ◌<◌, ◌≤◌, cond, if◌then◌else◌, Bool, true, false, List, [], ◌∷◌, ◌++◌, length, get_or, take, map, Vec, Global, Option, Some, None, slice_get, refl, sym, ap, ◌∙◌, subst, arith}
+use Rattle.std.proofs.Common.{◌≡◌, ℕ, zero, suc, ◌<◌, ◌≤◌, List, [], ◌∷◌, ◌++◌, length, get_or, take, map, Vec, Global, Option, Some, None, slice_get, refl, sym, ap, ◌∙◌, subst, arith}
 use Rattle.std.specs.List.{AllByRecursion as Each}
 use Rattle.m5_cps.specs.declared.types.TypeRow.TheVariants as row
 use Rattle.m5_cps.proofs.Lists.{item_there}
 use Rattle.m5_terms.specs.Expression.{Expression}
-use Rattle.m5_terms.specs.TypeExpression as type
 use Rattle.m5_terms.specs.TypeExpression.{TypeExpression}
-use Rattle.m5_terms.specs.Table.{entries, entered, put}
+use Rattle.m5_terms.specs.Table.{entries, put}
 use Rattle.m5_terms.specs.declared.types.World.{World}
 use Rattle.m5_terms.specs.declared.types.World.TheVariants as worlds
 use Rattle.m5_terms.specs.declared.table.Binding.TheVariants.{One}
@@ -14,7 +13,6 @@ use Rattle.m5_typing.specs.declared.functions.Function.{Function}
 use Rattle.m5_typing.specs.Context.{local, Setting}
 use Rattle.m5_typing.specs.Program.{ProgramTerm, bound_at, declared_type, declared_bound, setting_of}
 use Rattle.m5_cps.specs.Entries as entry
-use Rattle.m5_cps.specs.Blocks.{Blocks}
 use Rattle.m5_cps.specs.TypeParts.{bound_type}
 use Rattle.m5_cps.specs.TypesByNumber.{or_unit, row_type}
 use Rattle.m5_cps.specs.Steps.{entry_of, code_at}
@@ -23,9 +21,9 @@ use Rattle.m5_cps.specs.declared.entry.Entry.TheVariants as ways
 use Rattle.m5_cps.specs.declared.entry.Mode.TheVariants.{Only}
 use Rattle.m5_cps.specs.declared.step.Step.{Step}
 use Rattle.m5_cps.specs.declared.cps.Start.{Start}
-use Rattle.m5_cps_convert.specs.Scopes.{Scope, empty_scope, fn_scope}
-use Rattle.m5_cps_convert.specs.Continuations.{Continuation, Tail}
-use Rattle.m5_cps_convert.specs.Convert.{cps, function_code, function_block, main_code, program_blocks}
+use Rattle.m5_cps_convert.specs.Scopes.{empty_scope, fn_scope}
+use Rattle.m5_cps_convert.specs.Continuations.{Tail}
+use Rattle.m5_cps_convert.specs.Convert.{function_code, function_block, main_code, program_blocks}
 use Rattle.m5_cps_convert.specs.declared.walk.Walk.{Walk}
 use Rattle.m5_cps_convert.specs.declared.walk.Kind.TheVariants.{Local}
 use Rattle.m5_cps_convert.specs.declared.walk.Known.{Known}

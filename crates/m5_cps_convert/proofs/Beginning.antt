@@ -87,8 +87,8 @@ module _ (P : Program) (u : World) (site : IsSiteWorld u) where
     spawns na nr t1 h1 false e =
         let t2 : Site = record t1 { threads = t1.threads ++ enter (ρ1 n) (atom leaf_form.Unit) ∷ [] } in
         let s2 : meaning.Site = record s { threads = more } in
-        let started : Reads P (ρ1 n) (SStart (close γ a)) = (put_has P ρ n starts (SStart (close γ a)) (record { narrow = na; scope = in_block Γ.mode Γ; values = γ; node = a; proper = p; fits = f; code = refl; is = refl })).1 in
-        let h2 : Tied P u 1 (2 + W P) t2 s2 = record { runs = h1.runs; source_runs = h1.source_runs; threads = threads_append P u t1.threads (enter (ρ1 n) (atom leaf_form.Unit) ∷ []) s.threads (thread_of [] (Eval w (close γ a)) ∷ []) h1.threads (inr (inr (inr (record { node = close γ a; start = started; is = ap (λ y. thread_of [] (Eval y (close γ a))) we }))), tt); cells = h1.cells; handlers = h1.handlers; entered = h1.entered; units = h1.units } in
+        let started : Reads P (ρ1 n) (SStart u [] (close γ a)) = (put_has P ρ n starts (SStart u [] (close γ a)) (record { narrow = na; scope = in_block Γ.mode Γ; values = γ; node = a; proper = p; fits = f; static = STop; code = refl; frames = refl; is = refl })).1 in
+        let h2 : Tied P u 1 (2 + W P) t2 s2 = record { runs = h1.runs; source_runs = h1.source_runs; threads = threads_append P u t1.threads (enter (ρ1 n) (atom leaf_form.Unit) ∷ []) s.threads (thread_of [] (Eval w (close γ a)) ∷ []) h1.threads (inr (inr (inr (record { frames = []; node = close γ a; start = started; is = ap (λ y. thread_of [] (Eval y (close γ a))) we }))), tt); cells = h1.cells; handlers = h1.handlers; entered = h1.entered; units = h1.units } in
         subst (λ o. Meets P u (if o then stops_full t1 else goes_on t2 (atom leaf_form.Unit)) (at s.stopped)) (sym (ap (λ l. nat_le 4096 (suc l)) (threads_long P u t1.threads s.threads h1.threads) ∙ e))
         (back P u _ (at s.stopped) (src (ticked P 0 s2) fs (Returned w unit_value)) (ap (λ o. if o then meaning_step.stops_full (at s.stopped) else goes (meaning_step.stepped P 0 (at s.stopped) (thread_of fs (Returned w unit_value) ∷ more))) e)
         (fills P u site K rs (atom leaf_form.Unit) unit_value t2 (ticked P 0 s2) (suc n) ρ1 fs w (refl, tt) (frames_on u K fs (put_grows P ρ n starts) fr) (step_pays 0 h2 (omega arith)) nr))

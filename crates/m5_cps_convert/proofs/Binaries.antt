@@ -1,7 +1,6 @@
 -- Forms of two parts: direct calls of primitives, declarations, and what is made of two values.
-use Rattle.std.proofs.Common.{◌≡◌, ℕ, suc, Option, Some, None, refl, sym, ap, ◌∙◌, subst}
+use Rattle.std.proofs.Common.{◌≡◌, ℕ, Some, None, refl, sym, ap, ◌∙◌, subst}
 use Rattle.m5_terms.specs.Expression.{Expression, leaf, unary, binary, ternary}
-use Rattle.m5_terms.specs.TypeExpression.{TypeExpression}
 use Rattle.m5_terms.specs.Primitives.{primitive_type}
 use Rattle.m5_terms.specs.Table.{entries, entered}
 use Rattle.m5_terms.specs.declared.types.Primitive.{Primitive}
@@ -11,10 +10,11 @@ use Rattle.m5_terms.specs.declared.form.BinaryForm.TheVariants as binary_form
 use Rattle.m5_typing.specs.Context.{Setting}
 use Rattle.m5_cps.specs.TypeParts.{result_of, binary_whole}
 use Rattle.m5_cps.specs.Blocks.{Code}
+use Rattle.m5_cps.specs.Entries.{world_of}
 use Rattle.m5_cps_convert.specs.Scopes.{Scope}
 use Rattle.m5_cps_convert.specs.Continuations.{Continuation, Then}
 use Rattle.m5_cps_convert.specs.Forms.{binary_end, variable_of}
-use Rattle.m5_cps_convert.specs.Convert.{cps, type_in, called_directly, ask_code, binary_code}
+use Rattle.m5_cps_convert.specs.Convert.{cps, type_in, called_directly, away_to, ask_code, binary_code}
 use Rattle.m5_cps_convert.specs.declared.walk.Walk.{Walk}
 use Rattle.m5_cps_convert.specs.declared.walk.Around.{Around}
 use Rattle.m5_cps_convert.specs.declared.walk.Goal.{Goal}
@@ -22,7 +22,7 @@ use Rattle.m5_cps_convert.specs.declared.walk.Goal.TheVariants as goals
 use Rattle.m5_cps_convert.specs.declared.walk.Value.{Value}
 use Rattle.m5_cps_convert.specs.declared.lets.Inside.{Inside}
 use Rattle.m5_cps_convert.specs.code.Types.{IsAt}
-use Rattle.m5_cps_convert.specs.code.Writing.{Keeps, Grows, Completes, Goes}
+use Rattle.m5_cps_convert.specs.code.Writing.{Grows}
 use Rattle.m5_cps_convert.specs.code.Knowing.{Knows}
 use Rattle.m5_cps_convert.specs.code.Emitting.{Emits, EmitsWithin}
 use Rattle.m5_cps_convert.specs.code.TwoParts.{WritesAsk, WritesTwo}
@@ -110,7 +110,7 @@ let_emits u v w x at n goal f a b first val i is ea l eb = record {
 
 -- the code and type of a form of two values
 record IsOfTwo (E : Setting) (f : BinaryForm) (a b : Expression) (Γ : Scope) : Type 0 where
-  code : (n : ℕ) (κ : Continuation) → binary_code None f (type_in E (binary f a b) Γ) (type_in E a Γ) (variable_of b) (cps E a) (cps E b) Γ n κ
+  code : (n : ℕ) (κ : Continuation) → binary_code None (away_to (world_of Γ.mode) a b) f (type_in E (binary f a b) Γ) (type_in E a Γ) (variable_of b) (cps E a) (cps E b) Γ n κ
       ≡ cps E a Γ n (Then (λ x m. cps E b Γ m (Then (λ y p. binary_end f (binary_whole f (type_in E a Γ) (type_in E b Γ)) Γ x y p κ))))
   whole : type_in E (binary f a b) Γ ≡ binary_whole f (type_in E a Γ) (type_in E b Γ)
 
@@ -146,7 +146,7 @@ two_emits u v w x at n goal f a b first second val is none ea eb h = record {
             (last_code E f a b Γ κ first.slot, refl, h.goes (type_in E a Γ) (type_in E b Γ) (first_at E Γ k) (eb.typed E Γ k2) Γ k.mode T S κ (completes_rest T S v w x eb.grows rest) fo),
       )
       ∙ (ap Some (sym ((is_of_two E f a b Γ is).code n κ))
-      ∙ ap (λ o. Some (binary_code o f (type_in E (binary f a b) Γ) (type_in E a Γ) (variable_of b) (cps E a) (cps E b) Γ n κ)) (sym none));
+      ∙ ap (λ o. Some (binary_code o (away_to (world_of Γ.mode) a b) f (type_in E (binary f a b) Γ) (type_in E a Γ) (variable_of b) (cps E a) (cps E b) Γ n κ)) (sym none));
 }
   where
     first_at : (E : Setting) (Γ : Scope) → Knows u.types (entries u.names) u.functions.items at E Γ → IsAt w.types first.ty (type_in E a Γ)

@@ -1,5 +1,5 @@
 -- Functions, spawned threads and divisions: blocks of their own, and continuations that are held.
-use Rattle.std.proofs.Common.{◌≡◌, ℕ, suc, List, [], ◌∷◌, ◌++◌, length, Option, Some, None, refl, sym, ap, ◌∙◌, subst}
+use Rattle.std.proofs.Common.{◌≡◌, ℕ, suc, List, Option, Some, None, refl, sym, ap, ◌∙◌, subst}
 use Rattle.m5_terms.specs.Expression.{Expression, unary}
 use Rattle.m5_terms.specs.TypeExpression as type
 use Rattle.m5_terms.specs.TypeExpression.{TypeExpression}
@@ -33,7 +33,7 @@ use Rattle.m5_cps_convert.specs.declared.closing.Held.{Held}
 use Rattle.m5_cps_convert.specs.declared.functions.Signature.{Signature}
 use Rattle.m5_cps_convert.specs.declared.functions.Head.{Head}
 use Rattle.m5_cps_convert.specs.code.Types.{IsAt}
-use Rattle.m5_cps_convert.specs.code.Writing.{Keeps, Grows, Completes, Goes, Writes, WritesValue, Finishes, Gives, MeansEntry}
+use Rattle.m5_cps_convert.specs.code.Writing.{Keeps, Grows, Writes, WritesValue, Finishes, Gives, MeansEntry}
 use Rattle.m5_cps_convert.specs.code.Closing.{Opens, Behind, Holds, Resumes}
 use Rattle.m5_cps_convert.specs.code.Knowing.{Knows}
 use Rattle.m5_cps_convert.specs.code.Emitting.{AddsTypes, Emits, EmitsWithin}
@@ -43,7 +43,7 @@ use Rattle.m5_cps_convert.proofs.Growing.{keeps_self, keeps_trans, grows_trans}
 use Rattle.m5_cps_convert.proofs.Written.{completes_first, completes_rest}
 use Rattle.m5_cps_convert.proofs.Patched.{patched_grows}
 use Rattle.m5_cps_convert.proofs.Closed.{tail_finishes, end_finishes, behind_patches, held_grows, held_writes, held_keeps, closed_writes, taking_means}
-use Rattle.m5_cps_convert.proofs.Added.{adds, goes_added, writes_added}
+use Rattle.m5_cps_convert.proofs.Added.{adds, goes_added}
 use Rattle.m5_cps_convert.proofs.Known.{at_kept, knows_kept, knows_block}
 
 -- code that ends, before types were added

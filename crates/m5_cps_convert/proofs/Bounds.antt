@@ -13,7 +13,7 @@ use Rattle.m5_terms.specs.declared.form.BinaryForm.{BinaryForm}
 use Rattle.m5_terms.specs.declared.form.BinaryForm.TheVariants as binary_form
 use Rattle.m5_terms.specs.declared.form.TernaryForm.{TernaryForm}
 use Rattle.m5_terms.specs.declared.form.TernaryForm.TheVariants as ternary_form
-use Rattle.m5_cps.specs.Entries.{of, takes, only, Entry, by_value}
+use Rattle.m5_cps.specs.Entries.{of, takes, only, Entry, by_value, world_of}
 use Rattle.m5_cps.specs.Blocks.{Code, straight, closure, test, Straight, Test, if_here, Ending, go, call, ask, send}
 use Rattle.m5_cps.specs.Blocks as block
 use Rattle.m5_cps_convert.specs.Scopes.{Scope, bind, in_block, in_arm, in_sham, fn_scope, rec_scope}
@@ -21,11 +21,13 @@ use Rattle.m5_cps_convert.specs.Continuations.{Tail, Then, apply, reify, variabl
 use Rattle.m5_cps_convert.specs.Convert.{cps}
 use Rattle.m5_terms.specs.Expression.{node_count}
 use Rattle.m5_typing.specs.Context.{Setting}
+use Rattle.m5_cps.specs.TypeParts.{place_of}
 use Rattle.m5_cps.specs.Limits.{parts_then, parts_else, straight_slots, test_slots, ending_slots, path, ending_depth, straight_depth, depth}
 use Rattle.m5_cps_convert.specs.Counted.{blocks_in}
 use Rattle.m5_cps_convert.specs.Continuations.{Continuation, constant_code, arm_code, thread_end}
-use Rattle.m5_cps_convert.specs.Forms.{unary_rest, get_value, get_variable, get_code, variable_of}
-use Rattle.m5_cps_convert.specs.Convert.{called_directly, binary_rest, binary_code, ternary_rest}
+use Rattle.m5_cps_convert.specs.Forms.{unary_rest, homeward, get_away, get_value, get_variable, get_code, variable_of}
+use Rattle.m5_cps_convert.specs.Convert.{called_directly, is_plain, asks_at_once, away_to, binary_rest, get_apart, get_parts, binary_code, ternary_rest}
+use Rattle.m5_cps_convert.proofs.Leaving.{IsAway, away_is, asks_unnamed}
 
 -- each closure's block has at most 510 endings open at once, and fills at most L slots on a path besides those of an ending
 abbrev pub Inner : ℕ → Code → Type 0
@@ -188,6 +190,48 @@ module _ (L : ℕ) where
         at None = ended (omega arith) (at_most _ 9 d (closed_over (goal_small b e (in_block (only v) Γ) n refl h) (omega arith) h (two_ways {a = 0} {a1 = 1} {p = 4} {d = 0} (at_most 0 4 0 (an_end (go n k) 0) (omega arith) (omega arith) (omega arith)) (filled (omega arith, refl) (closed_over (an_end (send (suc n) k (suc (suc (suc n)))) 0) (omega arith) (omega arith) (an_end (send x n (suc (suc n))) 0))))) (omega arith) (omega arith) (omega (arith, one)))
         at (Some z) = by_slot (Γ.slots z)
 
+    -- what asks at once makes one block, beside those of what follows
+    abbrev KFew : Continuation → ℕ → Type 0
+    KFew κ a = (x m : ℕ) → blocks_in (apply κ x m) ≤ a
+
+    variable_few : (o : Option ℕ) (n : ℕ) (κ : Continuation) (a : ℕ) → KFew κ a → blocks_in (variable_code o n κ) ≤ a
+    variable_few None n κ a h = h n (suc n)
+    variable_few (Some l) n κ a h = h l n
+
+    leaf_few : (f : LeafForm) (Γ : Scope) (n : ℕ) (κ : Continuation) (a : ℕ) → KFew κ a → blocks_in (cps E (leaf f) Γ n κ) ≤ a
+    leaf_few (leaf_form.Var x) Γ n κ a h = variable_few (Γ.slots x) n κ a h
+    leaf_few (leaf_form.Valid x) Γ n κ a h = variable_few (Γ.slots x) n κ a h
+    leaf_few _ Γ n κ a h = h n (suc n)
+
+    plain_few : (c : Expression) → is_plain c ≡ true → (Γ : Scope) (n : ℕ) (κ : Continuation) (a : ℕ) → KFew κ a → blocks_in (cps E c Γ n κ) ≤ a
+    plain_few (leaf f) e Γ n κ a h = leaf_few f Γ n κ a h
+    plain_few (binary binary_form.Pair (leaf f) (leaf g)) e Γ n κ a h = leaf_few f Γ n _ a (λ x m. leaf_few g Γ m _ a (λ y q. h q (suc q)))
+    plain_few _ e Γ n κ a h = absurd (cc)
+
+    reified_few : (y : Entry) (κ : Continuation) (n : ℕ) (e : ℕ → Ending) (a : ℕ) → KFew κ a → blocks_in (reify y κ n (λ k m. block.ends (e k))) ≤ suc a
+    reified_few y (Tail k) n e a h = omega arith
+    reified_few y (Then f) n e a h = omega (arith, h (suc n) (suc (suc n)))
+
+    asks_few : (b : Expression) → asks_at_once b ≡ true → (Γ : Scope) (n : ℕ) (κ : Continuation) (a : ℕ) → KFew κ a → blocks_in (cps E b Γ n κ) ≤ suc a
+    asks_few (binary binary_form.Call (leaf (leaf_form.Extern p)) c) e Γ n κ a h = plain_few c e Γ n _ (suc a) (λ y m. reified_few _ κ m (λ k. ask p y k) a h)
+    asks_few _ e Γ n κ a h = absurd (cc)
+
+    -- a get whose block may go, with its other form
+    home_small : (e : Expression) → SmallAt e → (Γ : Scope) (n : ℕ) (w : World) (k : ℕ) → Γ.arms ≡ 0 → 3 * node_count e ≤ L → S (cps E e Γ n (homeward w k)) (3 * node_count e) (3 * node_count e) 501
+    home_small e s Γ n w k z h = at_most (3 * node_count e) (3 * node_count e) 501 (s Γ n (homeward w k) 0 0 501 (λ x m. record { blocks = omega arith; path = omega arith; depth = omega arith; inner = tt }) (omega arith) (omega arith) (omega (arith, z)) (omega (arith, h))) (omega arith) (omega arith) (omega arith)
+
+    away_small : (T A : TypeExpression) (v w : World) (b : Expression) → SmallAt b → asks_at_once b ≡ true → (z : Option ℕ) → z ≡ None → (Γ : Scope) (k n d : ℕ) → 3 * node_count b ≤ L → S (get_away w v (cps E b) Γ k n (get_apart T A z (cps E (leaf (leaf_form.Addr v))) (cps E b) Γ k (suc n))) 5 0 d
+    away_small T A v w b e asks (Some z) q Γ k n d h = absurd (cc)
+    away_small T A v w b e asks None q Γ k n d h =
+        let j = home_small b e (in_block (only v) Γ) (suc (suc (suc (suc n)))) w k refl h in
+        let g = goal_small b e (in_block (only (place_of A)) Γ) (suc (suc n)) refl h in
+        record {
+          blocks = omega (arith, asks_few b asks (in_block (only v) Γ) (suc (suc (suc (suc n)))) (homeward w k) 0 (λ x m. omega arith), asks_few b asks (in_block (only (place_of A)) Γ) (suc (suc (suc (suc n)))) (Tail (suc (suc (suc n)))) 0 (λ x m. omega arith));
+          path = omega arith;
+          depth = omega arith;
+          inner = ((omega (arith, j.depth), omega (arith, j.path, h), j.inner, tt), ((omega (arith, g.depth), omega (arith, g.path, h), g.inner, (tt, (omega arith, omega arith, tt, tt)))));
+        }
+
     -- what follows the first part of a node of two, but for a get
     abbrev RestSmall : BinaryForm → Type 0
     RestSmall f = (T A : TypeExpression) (b : Expression) (e : SmallAt b) (Γ : Scope) (x n : ℕ) (κ : Continuation) (a p d : ℕ) → KSmall κ a p d → 1 ≤ d → d ≤ 501 → 501 ≤ d + Γ.arms → 3 + p + 3 * node_count b ≤ L → S (binary_rest f T A (variable_of b) (cps E b) Γ x n κ) (3 * node_count b + suc a) (3 * node_count b + (3 + p)) d
@@ -224,23 +268,30 @@ module _ (L : ℕ) where
     part_small : (f : BinaryForm) → RestSmall f → (T A : TypeExpression) (a b : Expression) → SmallAt a → SmallAt b → (Γ : Scope) (n : ℕ) (κ : Continuation) (c p d : ℕ) → KSmall κ c p d → 1 ≤ d → d ≤ 501 → 501 ≤ d + Γ.arms → p + 3 * node_count (binary f a b) ≤ L → S (cps E a Γ n (Then (λ x m. binary_rest f T A (variable_of b) (cps E b) Γ x m κ))) (3 * node_count (binary f a b) + c) (3 * node_count (binary f a b) + p) d
     part_small f r T A a b ea eb Γ n κ c p d k one le ar h = at_most _ _ d (first_small a ea Γ n _ (3 * node_count b + suc c) (3 * node_count b + (3 + p)) d (λ x m. r T A b eb Γ x m κ c p d k one le ar (omega (arith, h))) one le ar (omega (arith, h))) (omega arith) (omega arith) (omega arith)
 
-    get_all_small : (T A : TypeExpression) (a b : Expression) → SmallAt a → SmallAt b → (Γ : Scope) (n : ℕ) (κ : Continuation) (c p d : ℕ) → KSmall κ c p d → 1 ≤ d → d ≤ 501 → 501 ≤ d + Γ.arms → p + 3 * node_count (binary binary_form.Get a b) ≤ L → S (binary_code None binary_form.Get T A (variable_of b) (cps E a) (cps E b) Γ n κ) (3 * node_count (binary binary_form.Get a b) + c) (3 * node_count (binary binary_form.Get a b) + p) d
-    get_all_small T A a b ea eb Γ n κ c p d k one le ar h = at_most _ _ d (reified _ κ n _ c p (3 * node_count a + (2 + 3 * node_count b)) (3 * node_count a + 0) d k le (omega (arith, h))
-        (λ l m. first_small a ea Γ m _ (2 + 3 * node_count b) 0 d (λ x q. get_small T _ x b eb Γ l q d one (omega (arith, h))) one le ar (omega (arith, h, node_least b)))) (omega arith) (omega (arith, node_least b)) (omega arith)
+    parts_small : (o : Option World) (w : World) (T A : TypeExpression) (a b : Expression) → ((v : World) → o ≡ Some v → IsAway a b w v) → SmallAt a → SmallAt b → (Γ : Scope) (k n d : ℕ) → 1 ≤ d → d ≤ 501 → 501 ≤ d + Γ.arms → 3 * node_count a + 3 * node_count b ≤ L → S (get_parts o T A (variable_of b) (cps E a) (cps E b) Γ k n) (3 * node_count a + (2 + 3 * node_count b)) (3 * node_count a + 0) d
+    parts_small None w T A a b is ea eb Γ k n d one le ar h = first_small a ea Γ n _ (2 + 3 * node_count b) 0 d (λ x q. get_small T _ x b eb Γ k q d one (omega (arith, h))) one le ar (omega (arith, h))
+    parts_small (Some v) w T A a b is ea eb Γ k n d one le ar h =
+        let i = is v refl in
+        subst (λ c. S (get_parts (Some v) T A (variable_of b) (cps E c) (cps E b) Γ k n) (3 * node_count a + (2 + 3 * node_count b)) (3 * node_count a + 0) d) (sym i.address)
+        (at_most _ _ d (away_small T A v _ b eb i.asks (variable_of b) (asks_unnamed b i.asks) Γ k n d (omega (arith, h))) (omega (arith, node_least a, node_least b)) (omega arith) (omega arith))
 
-    binary_small : (o : Option Primitive) (f : BinaryForm) (T A : TypeExpression) (a b : Expression) → SmallAt a → SmallAt b → (Γ : Scope) (n : ℕ) (κ : Continuation) (c p d : ℕ) → KSmall κ c p d → 1 ≤ d → d ≤ 501 → 501 ≤ d + Γ.arms → p + 3 * node_count (binary f a b) ≤ L → S (binary_code o f T A (variable_of b) (cps E a) (cps E b) Γ n κ) (3 * node_count (binary f a b) + c) (3 * node_count (binary f a b) + p) d
-    binary_small (Some q) f T A a b ea eb Γ n κ c p d k one le ar h = at_most _ _ d (call_small T b eb Γ n κ (λ y l. ask q y l) c p d k one le ar (omega (arith, h))) (omega arith) (omega arith) (omega arith)
-    binary_small None binary_form.Get T A a b ea eb Γ n κ c p d k one le ar h = get_all_small T A a b ea eb Γ n κ c p d k one le ar h
-    binary_small None binary_form.Do T A a b ea eb Γ n κ c p d k one le ar h = part_small binary_form.Do do_small T A a b ea eb Γ n κ c p d k one le ar h
-    binary_small None (binary_form.Val y) T A a b ea eb Γ n κ c p d k one le ar h = part_small (binary_form.Val y) (val_small y) T A a b ea eb Γ n κ c p d k one le ar h
-    binary_small None (binary_form.Put y) T A a b ea eb Γ n κ c p d k one le ar h = part_small (binary_form.Put y) (put_small y) T A a b ea eb Γ n κ c p d k one le ar h
-    binary_small None (binary_form.Leta y) T A a b ea eb Γ n κ c p d k one le ar h = part_small (binary_form.Leta y) (leta_small y) T A a b ea eb Γ n κ c p d k one le ar h
-    binary_small None (binary_form.Lets y) T A a b ea eb Γ n κ c p d k one le ar h = part_small (binary_form.Lets y) (lets_small y) T A a b ea eb Γ n κ c p d k one le ar h
-    binary_small None binary_form.Call T A a b ea eb Γ n κ c p d k one le ar h = part_small binary_form.Call (λ T1 A1 b1 e1 Γ1 x1 n1 κ1 a1 p1 d1 k1 one1 le1 ar1 h1. call_small T1 b1 e1 Γ1 n1 κ1 (λ y l. call x1 y l) a1 p1 d1 k1 one1 le1 ar1 h1) T A a b ea eb Γ n κ c p d k one le ar h
-    binary_small None binary_form.Pair T A a b ea eb Γ n κ c p d k one le ar h = part_small binary_form.Pair (λ T1 A1 b1 e1 Γ1 x1 n1 κ1 a1 p1 d1 k1 one1 le1 ar1 h1. two_small binary_form.Pair b1 e1 Γ1 x1 n1 κ1 a1 p1 d1 k1 one1 le1 ar1 h1) T A a b ea eb Γ n κ c p d k one le ar h
-    binary_small None binary_form.Cons T A a b ea eb Γ n κ c p d k one le ar h = part_small binary_form.Cons (λ T1 A1 b1 e1 Γ1 x1 n1 κ1 a1 p1 d1 k1 one1 le1 ar1 h1. two_small binary_form.Cons b1 e1 Γ1 x1 n1 κ1 a1 p1 d1 k1 one1 le1 ar1 h1) T A a b ea eb Γ n κ c p d k one le ar h
-    binary_small None binary_form.Store T A a b ea eb Γ n κ c p d k one le ar h = part_small binary_form.Store (λ T1 A1 b1 e1 Γ1 x1 n1 κ1 a1 p1 d1 k1 one1 le1 ar1 h1. two_small binary_form.Store b1 e1 Γ1 x1 n1 κ1 a1 p1 d1 k1 one1 le1 ar1 h1) T A a b ea eb Γ n κ c p d k one le ar h
-    binary_small None (binary_form.Binary o) T A a b ea eb Γ n κ c p d k one le ar h = part_small (binary_form.Binary o) (λ T1 A1 b1 e1 Γ1 x1 n1 κ1 a1 p1 d1 k1 one1 le1 ar1 h1. two_small (binary_form.Binary o) b1 e1 Γ1 x1 n1 κ1 a1 p1 d1 k1 one1 le1 ar1 h1) T A a b ea eb Γ n κ c p d k one le ar h
+    get_all_small : (o : Option World) (w : World) (T A : TypeExpression) (a b : Expression) → ((v : World) → o ≡ Some v → IsAway a b w v) → SmallAt a → SmallAt b → (Γ : Scope) (n : ℕ) (κ : Continuation) (c p d : ℕ) → KSmall κ c p d → 1 ≤ d → d ≤ 501 → 501 ≤ d + Γ.arms → p + 3 * node_count (binary binary_form.Get a b) ≤ L → S (binary_code None o binary_form.Get T A (variable_of b) (cps E a) (cps E b) Γ n κ) (3 * node_count (binary binary_form.Get a b) + c) (3 * node_count (binary binary_form.Get a b) + p) d
+    get_all_small o w T A a b is ea eb Γ n κ c p d k one le ar h = at_most _ _ d (reified _ κ n _ c p (3 * node_count a + (2 + 3 * node_count b)) (3 * node_count a + 0) d k le (omega (arith, h))
+        (λ l m. parts_small o w T A a b is ea eb Γ l m d one le ar (omega (arith, h)))) (omega arith) (omega (arith, node_least b)) (omega arith)
+
+    binary_small : (o : Option Primitive) (r : Option World) (w : World) (f : BinaryForm) (T A : TypeExpression) (a b : Expression) → ((v : World) → r ≡ Some v → IsAway a b w v) → SmallAt a → SmallAt b → (Γ : Scope) (n : ℕ) (κ : Continuation) (c p d : ℕ) → KSmall κ c p d → 1 ≤ d → d ≤ 501 → 501 ≤ d + Γ.arms → p + 3 * node_count (binary f a b) ≤ L → S (binary_code o r f T A (variable_of b) (cps E a) (cps E b) Γ n κ) (3 * node_count (binary f a b) + c) (3 * node_count (binary f a b) + p) d
+    binary_small (Some q) r w f T A a b is ea eb Γ n κ c p d k one le ar h = at_most _ _ d (call_small T b eb Γ n κ (λ y l. ask q y l) c p d k one le ar (omega (arith, h))) (omega arith) (omega arith) (omega arith)
+    binary_small None r w binary_form.Get T A a b is ea eb Γ n κ c p d k one le ar h = get_all_small r w T A a b is ea eb Γ n κ c p d k one le ar h
+    binary_small None r w binary_form.Do T A a b is ea eb Γ n κ c p d k one le ar h = part_small binary_form.Do do_small T A a b ea eb Γ n κ c p d k one le ar h
+    binary_small None r w (binary_form.Val y) T A a b is ea eb Γ n κ c p d k one le ar h = part_small (binary_form.Val y) (val_small y) T A a b ea eb Γ n κ c p d k one le ar h
+    binary_small None r w (binary_form.Put y) T A a b is ea eb Γ n κ c p d k one le ar h = part_small (binary_form.Put y) (put_small y) T A a b ea eb Γ n κ c p d k one le ar h
+    binary_small None r w (binary_form.Leta y) T A a b is ea eb Γ n κ c p d k one le ar h = part_small (binary_form.Leta y) (leta_small y) T A a b ea eb Γ n κ c p d k one le ar h
+    binary_small None r w (binary_form.Lets y) T A a b is ea eb Γ n κ c p d k one le ar h = part_small (binary_form.Lets y) (lets_small y) T A a b ea eb Γ n κ c p d k one le ar h
+    binary_small None r w binary_form.Call T A a b is ea eb Γ n κ c p d k one le ar h = part_small binary_form.Call (λ T1 A1 b1 e1 Γ1 x1 n1 κ1 a1 p1 d1 k1 one1 le1 ar1 h1. call_small T1 b1 e1 Γ1 n1 κ1 (λ y l. call x1 y l) a1 p1 d1 k1 one1 le1 ar1 h1) T A a b ea eb Γ n κ c p d k one le ar h
+    binary_small None r w binary_form.Pair T A a b is ea eb Γ n κ c p d k one le ar h = part_small binary_form.Pair (λ T1 A1 b1 e1 Γ1 x1 n1 κ1 a1 p1 d1 k1 one1 le1 ar1 h1. two_small binary_form.Pair b1 e1 Γ1 x1 n1 κ1 a1 p1 d1 k1 one1 le1 ar1 h1) T A a b ea eb Γ n κ c p d k one le ar h
+    binary_small None r w binary_form.Cons T A a b is ea eb Γ n κ c p d k one le ar h = part_small binary_form.Cons (λ T1 A1 b1 e1 Γ1 x1 n1 κ1 a1 p1 d1 k1 one1 le1 ar1 h1. two_small binary_form.Cons b1 e1 Γ1 x1 n1 κ1 a1 p1 d1 k1 one1 le1 ar1 h1) T A a b ea eb Γ n κ c p d k one le ar h
+    binary_small None r w binary_form.Store T A a b is ea eb Γ n κ c p d k one le ar h = part_small binary_form.Store (λ T1 A1 b1 e1 Γ1 x1 n1 κ1 a1 p1 d1 k1 one1 le1 ar1 h1. two_small binary_form.Store b1 e1 Γ1 x1 n1 κ1 a1 p1 d1 k1 one1 le1 ar1 h1) T A a b ea eb Γ n κ c p d k one le ar h
+    binary_small None r w (binary_form.Binary o) T A a b is ea eb Γ n κ c p d k one le ar h = part_small (binary_form.Binary o) (λ T1 A1 b1 e1 Γ1 x1 n1 κ1 a1 p1 d1 k1 one1 le1 ar1 h1. two_small (binary_form.Binary o) b1 e1 Γ1 x1 n1 κ1 a1 p1 d1 k1 one1 le1 ar1 h1) T A a b ea eb Γ n κ c p d k one le ar h
 
     -- arms: one in the block nests a test less, and one in a block of its own none
     arm_small : (T : TypeExpression) (e : Expression) (s : SmallAt e) (Γ : Scope) (n k d : ℕ) → suc d ≤ 501 → 501 ≤ suc d + Γ.arms → 3 * node_count e ≤ L → S (arm_code T (cps E e) Γ n k) (suc (3 * node_count e)) (3 * node_count e) d
@@ -268,5 +319,5 @@ module _ (L : ℕ) where
     pub small_at : (e : Expression) → SmallAt e
     small_at (leaf f) = leaf_small f
     small_at (unary f a) = unary_small f a (small_at a)
-    small_at (binary f a b) = λ Γ n κ c p d k one le ar h. binary_small (called_directly f a) f _ _ a b (small_at a) (small_at b) Γ n κ c p d k one le ar h
+    small_at (binary f a b) = λ Γ n κ c p d k one le ar h. binary_small (called_directly f a) (away_to (world_of Γ.mode) a b) _ f _ _ a b (away_is a b (world_of Γ.mode)) (small_at a) (small_at b) Γ n κ c p d k one le ar h
     small_at (ternary f a b c) = ternary_small f a b c (small_at a) (small_at b) (small_at c)

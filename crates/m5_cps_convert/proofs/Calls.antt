@@ -27,7 +27,7 @@ use Rattle.m5_cps.specs.Captured.{Closure, over, Value, Thread, Site, captured}
 use Rattle.m5_cps.specs.Running.{run}
 use Rattle.m5_cps_convert.specs.Scopes.{Scope}
 use Rattle.m5_cps_convert.specs.Continuations.{reify}
-use Rattle.m5_cps_convert.specs.Statics.{Static, STop, STail, SBack, SFirst, SSecond, SArgument, kont, Works}
+use Rattle.m5_cps_convert.specs.Statics.{Static, STop, STail, SBack, SHome, SFirst, SSecond, SArgument, kont, Works}
 use Rattle.m5_cps_convert.specs.Slots.{SVal, SKont, Has, Frames}
 use Rattle.m5_cps_convert.specs.Narrow.{Narrow}
 use Rattle.m5_cps_convert.specs.Reading.{setting, Reads}
@@ -63,6 +63,7 @@ module _ (P : Program) (u : World) (site : IsSiteWorld u) where
     reified (STail j) n ρ fs g t s fs0 f0 h fr nr k = k j n ρ t (grows_not (In P ρ) n) fr (lent closure_room h (omega arith)) nr
     reified STop n ρ fs g t s fs0 f0 h fr nr k = made STop (record {}) n ρ fs g t s fs0 f0 h fr nr k
     reified (SBack a j) n ρ fs g t s fs0 f0 h fr nr k = made (SBack a j) (record {}) n ρ fs g t s fs0 f0 h fr nr k
+    reified (SHome w j) n ρ fs g t s fs0 f0 h fr nr k = made (SHome w j) (record {}) n ρ fs g t s fs0 f0 h fr nr k
     reified (SFirst Γ e K) n ρ fs g t s fs0 f0 h fr nr k = made (SFirst Γ e K) (record {}) n ρ fs g t s fs0 f0 h fr nr k
     reified (SSecond Γ e x K) n ρ fs g t s fs0 f0 h fr nr k = made (SSecond Γ e x K) (record {}) n ρ fs g t s fs0 f0 h fr nr k
     reified (SArgument Γ p b K) n ρ fs g t s fs0 f0 h fr nr k = made (SArgument Γ p b K) (record {}) n ρ fs g t s fs0 f0 h fr nr k

@@ -1,5 +1,5 @@
 -- Bodies of gets and arms of choices, and both whole.
-use Rattle.std.proofs.Common.{◌≡◌, ◌<◌, ◌≤◌, ℕ, suc, Bool, true, false, nat_lt, cond, if◌then◌else◌, List, [], ◌∷◌, ◌++◌, length, Option, Some, None, refl, sym, ap, ◌∙◌, subst, inl, inr, arith}
+use Rattle.std.proofs.Common.{◌≡◌, ◌<◌, ◌≤◌, ℕ, suc, true, false, nat_lt, if◌then◌else◌, List, [], ◌∷◌, ◌++◌, length, Option, Some, None, refl, sym, ap, ◌∙◌, subst, arith}
 use Rattle.std.proofs.lemmas.Bool.Decides.{nat_tests}
 use Rattle.m5_terms.specs.Expression.{Expression, leaf, unary, binary, ternary}
 use Rattle.m5_terms.specs.TypeExpression.{TypeExpression}
@@ -30,7 +30,7 @@ use Rattle.m5_cps.specs.declared.step.Step.TheVariants as steps
 use Rattle.m5_cps_convert.specs.Scopes.{Scope, in_block, in_arm}
 use Rattle.m5_cps_convert.specs.Continuations.{Continuation, Tail, Then, reify, taking, goal_code, arm_code}
 use Rattle.m5_cps_convert.specs.Forms.{variable_of, get_code}
-use Rattle.m5_cps_convert.specs.Convert.{cps, type_in, ternary_rest}
+use Rattle.m5_cps_convert.specs.Convert.{away_to, get_apart, get_parts, cps, type_in, ternary_rest}
 use Rattle.m5_cps_convert.specs.declared.walk.Walk.{Walk}
 use Rattle.m5_cps_convert.specs.declared.walk.Known.{Known}
 use Rattle.m5_cps_convert.specs.declared.walk.Around.{Around}
@@ -43,13 +43,14 @@ use Rattle.m5_cps_convert.specs.declared.lets.Inside.{Inside}
 use Rattle.m5_cps_convert.specs.declared.gets.Sent.TheVariants as sents
 use Rattle.m5_cps_convert.specs.code.Types.{IsAt}
 use Rattle.m5_cps_convert.specs.code.Around.{IsInArm}
-use Rattle.m5_cps_convert.specs.code.Writing.{Keeps, Grows, Completes, Goes, Writes, Finishes, MeansEntry}
+use Rattle.m5_cps_convert.specs.code.Writing.{Keeps, Grows, Finishes, MeansEntry}
 use Rattle.m5_cps_convert.specs.code.Closing.{Opens, Behind, Holds, Resumes}
 use Rattle.m5_cps_convert.specs.code.Knowing.{Knows}
 use Rattle.m5_cps_convert.specs.code.Emitting.{Emits, EmitsWithin}
 use Rattle.m5_cps_convert.specs.code.Choices.{BeginsTest, EndsTest, choice_test, second_arm_scope, third_arm_scope, second_arm_filled, third_arm_filled, IsArm}
 use Rattle.m5_cps_convert.specs.code.Gets.{sent_code, Sends, GetsVariable}
-use Rattle.m5_cps_convert.specs.code.Parts.{EmitsBody, IsWhole, or_own, EmitsArm}
+use Rattle.m5_cps_convert.specs.code.Aways.{EmitsAway}
+use Rattle.m5_cps_convert.specs.code.Parts.{EmitsBody, EmitsApart, EmitsParts, IsWhole, or_own, EmitsArm}
 use Rattle.m5_cps_convert.proofs.Growing.{keeps_self, keeps_trans, grows_trans, grows_push}
 use Rattle.m5_cps_convert.proofs.Written.{completes_first, completes_rest}
 use Rattle.m5_cps_convert.proofs.Patched.{Patched, patched_grows}
@@ -121,53 +122,70 @@ goal_body u v w w2 x at inside world address k waiting body o y e value none ew 
         subst (λ i. Finishes v w (cps E e (in_block (entry.only world) Γ) (suc i) (Tail i))) ew
         (subst (λ i. Finishes v w (cps E e (in_block (entry.only world) Γ) i (Tail waiting))) eb one)
 
--- a get, whose continuation is held before its address is evaluated
-pub get_emits : (u v w w2 x : Walk) (at : Around) (n : ℕ) (goal : Goal) (a b : Expression) (h : Held) (address val : Value) (world : World) (ty : ℕ) (y : Entry)
-    → Holds u v goal n h → Emits v w at h.filled goals.Then a address → world ≡ place_of (type_in_list w.types address.ty) → EmitsBody w w2 at world address h.slot b ty
-    → y ≡ ways.ByValue at.mode (takings.Value ty) → Resumes w2 x h goal y ty val → Emits u x at n goal (binary binary_form.Get a b) val
-get_emits u v w w2 x at n goal a b h address val world ty y hd ea ew eb ey r = record {
-  grows = gx;
-  typed = λ E Γ k. subst (λ i. IsAt x.types i (whole E Γ)) (sym r.type_is) (at_kept rest_kept (at_body E Γ k));
+-- the address of a get, and its body
+pub apart_emits : (v w w2 : Walk) (at : Around) (n k : ℕ) (a b : Expression) (address : Value) (world : World) (ty : ℕ)
+    → Emits v w at n goals.Then a address → world ≡ place_of (type_in_list w.types address.ty) → EmitsBody w w2 at world address k b ty → EmitsApart v w2 at n k a b ty
+apart_emits v w w2 at n k a b address world ty ea ew eb = record {
+  grows = grows_trans ea.grows eb.grows;
+  typed = λ E Γ kn. subst (λ s. IsAt w2.types ty (type_of E b Γ.bounds s)) (world_is E Γ kn) (eb.typed E Γ (known_after v w at E Γ ea.grows kn));
+  code = λ E Γ kn. record {
+    grows = grows_trans ea.grows eb.grows;
+    stands = λ T S q.
+        ea.code E Γ kn T S (Then (rest E Γ)) (completes_first T S v w w2 eb.grows q) (
+          rest E Γ,
+          refl,
+          (eb.code E Γ (known_after v w at E Γ ea.grows kn)).stands T S (completes_rest T S v w w2 ea.grows q)
+              ∙ ap (λ s. Some (get_code (type_of E b Γ.bounds s) s address.slot (variable_of b) (cps E b) Γ k address.filled)) (world_is E Γ kn),
+        );
+  };
+}
+  where
+    rest : Setting → Scope → ℕ → ℕ → Code
+    rest E Γ s p = get_code (type_of E b Γ.bounds (place_of (type_in E a Γ))) (place_of (type_in E a Γ)) s (variable_of b) (cps E b) Γ k p
+
+    world_is : (E : Setting) (Γ : Scope) → Knows v.types (entries v.names) v.functions.items at E Γ → world ≡ place_of (type_in E a Γ)
+    world_is E Γ kn = ew ∙ ap (λ A. place_of (or_unit A)) (ea.typed E Γ kn).is
+
+-- where its block may go, what another site does comes last
+pub parts_emit : (v w w2 : Walk) (at : Around) (own world : World) (n k m : ℕ) (a b : Expression) (ty : ℕ) → own ≡ world_of (mode_of at.mode) → away_to own a b ≡ Some world
+    → EmitsAway v w at world n k b m → EmitsApart w w2 at m k a b ty → EmitsParts v w2 at n k a b ty
+parts_emit v w w2 at own world n k m a b ty eo away e h = record {
+  grows = grows_trans e.grows h.grows;
+  typed = λ E Γ kn. h.typed E Γ (known_after v w at E Γ e.grows kn);
+  code = λ E Γ kn.
+      subst (λ o. Finishes v w2 (get_parts o (type_in E (binary binary_form.Get a b) Γ) (type_in E a Γ) (variable_of b) (cps E a) (cps E b) Γ k n))
+      (sym (ap (λ i. away_to i a b) (ap world_of kn.mode ∙ sym eo) ∙ away))
+      (e.code E Γ w2 _ kn
+      (subst (λ i. Finishes w w2 (get_apart (type_in E (binary binary_form.Get a b) Γ) (type_in E a Γ) (variable_of b) (cps E a) (cps E b) Γ k i)) e.filled (h.code E Γ (known_after v w at E Γ e.grows kn))));
+}
+
+pub apart_parts : (v w2 : Walk) (at : Around) (own : World) (n k : ℕ) (a b : Expression) (ty : ℕ) → own ≡ world_of (mode_of at.mode) → away_to own a b ≡ None
+    → EmitsApart v w2 at n k a b ty → EmitsParts v w2 at n k a b ty
+apart_parts v w2 at own n k a b ty eo none h = record {
+  grows = h.grows;
+  typed = h.typed;
+  code = λ E Γ kn.
+      subst (λ o. Finishes v w2 (get_parts o (type_in E (binary binary_form.Get a b) Γ) (type_in E a Γ) (variable_of b) (cps E a) (cps E b) Γ k n))
+      (sym (ap (λ i. away_to i a b) (ap world_of kn.mode ∙ sym eo) ∙ none)) (h.code E Γ kn);
+}
+
+-- a get, whose continuation is held before its parts
+pub get_emits : (u v w2 x : Walk) (at : Around) (n : ℕ) (goal : Goal) (a b : Expression) (h : Held) (val : Value) (ty : ℕ) (y : Entry)
+    → Holds u v goal n h → EmitsParts v w2 at h.filled h.slot a b ty → y ≡ ways.ByValue at.mode (takings.Value ty) → Resumes w2 x h goal y ty val → Emits u x at n goal (binary binary_form.Get a b) val
+get_emits u v w2 x at n goal a b h val ty y hd ep ey r = record {
+  grows = held_grows u v w2 x goal n ty h y val hd ep.grows r;
+  typed = λ E Γ k. subst (λ i. IsAt x.types i (whole E Γ)) (sym r.type_is) (at_kept rest_kept (ep.typed E Γ (known_held u v goal n h at E Γ hd k)));
   code = λ E Γ k.
       (held_writes u v w2 x goal n ty h y (taking (whole E Γ) Γ) val
-      (λ i m. cps E a Γ m (Then (λ s p. get_code (whole E Γ) (place_of (type_in E a Γ)) s (variable_of b) (cps E b) Γ i p))) hd (between E Γ k) r
-      (taking_means w2.types at y ty (whole E Γ) Γ ey (at_body E Γ k) k.mode)).goes;
+      (λ i m. get_parts (away_to (world_of Γ.mode) a b) (whole E Γ) (type_in E a Γ) (variable_of b) (cps E a) (cps E b) Γ i m) hd (ep.code E Γ (known_held u v goal n h at E Γ hd k)) r
+      (taking_means w2.types at y ty (whole E Γ) Γ ey (ep.typed E Γ (known_held u v goal n h at E Γ hd k)) k.mode)).goes;
 }
   where
     whole : (E : Setting) (Γ : Scope) → TypeExpression
-    whole E Γ = type_of E b Γ.bounds (place_of (type_in E a Γ))
-
-    gw : Grows v w2
-    gw = grows_trans ea.grows eb.grows
-
-    gx : Grows u x
-    gx = held_grows u v w2 x goal n ty h y val hd gw r
+    whole E Γ = type_in E (binary binary_form.Get a b) Γ
 
     rest_kept : Keeps w2.types x.types
     rest_kept = subst (λ L. Keeps w2.types L) (sym (continues_types w2 x goal h.pending y r.continues)) (keeps_self w2.types)
-
-    known_w : (E : Setting) (Γ : Scope) → Knows u.types (entries u.names) u.functions.items at E Γ → Knows w.types (entries w.names) w.functions.items at E Γ
-    known_w E Γ k = known_after v w at E Γ ea.grows (known_held u v goal n h at E Γ hd k)
-
-    world_is : (E : Setting) (Γ : Scope) → Knows u.types (entries u.names) u.functions.items at E Γ → world ≡ place_of (type_in E a Γ)
-    world_is E Γ k = ew ∙ ap (λ A. place_of (or_unit A)) (ea.typed E Γ (known_held u v goal n h at E Γ hd k)).is
-
-    at_body : (E : Setting) (Γ : Scope) → Knows u.types (entries u.names) u.functions.items at E Γ → IsAt w2.types ty (whole E Γ)
-    at_body E Γ k = subst (λ s. IsAt w2.types ty (type_of E b Γ.bounds s)) (world_is E Γ k) (eb.typed E Γ (known_w E Γ k))
-
-    between : (E : Setting) (Γ : Scope) → Knows u.types (entries u.names) u.functions.items at E Γ
-        → Finishes v w2 (cps E a Γ h.filled (Then (λ s p. get_code (whole E Γ) (place_of (type_in E a Γ)) s (variable_of b) (cps E b) Γ h.slot p)))
-    between E Γ k = record {
-      grows = gw;
-      stands = λ T S q.
-          ea.code E Γ (known_held u v goal n h at E Γ hd k) T S (Then (λ s p. get_code (whole E Γ) (place_of (type_in E a Γ)) s (variable_of b) (cps E b) Γ h.slot p))
-          (completes_first T S v w w2 eb.grows q) (
-            (λ s p. get_code (whole E Γ) (place_of (type_in E a Γ)) s (variable_of b) (cps E b) Γ h.slot p),
-            refl,
-            (eb.code E Γ (known_w E Γ k)).stands T S (completes_rest T S v w w2 ea.grows q)
-                ∙ ap (λ s. Some (get_code (type_of E b Γ.bounds s) s address.slot (variable_of b) (cps E b) Γ h.slot address.filled)) (world_is E Γ k),
-          );
-    }
 
 below : (a b : ℕ) → a < b → nat_lt a b ≡ true
 below a b h = grind (arith, nat_tests)

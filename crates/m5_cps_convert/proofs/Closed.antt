@@ -1,8 +1,7 @@
 -- Closures and tests whose places were set: what stands for a continuation, for a block of its own, and for a choice.
-use Rattle.std.proofs.Common.{◌≡◌, ℕ, suc, ◌+◌, ◌<◌, ◌≤◌, List, [], ◌∷◌, ◌++◌, length, Option, Some, None, slice_get, slice_set, refl, sym, ap, ◌∙◌, subst, arith}
+use Rattle.std.proofs.Common.{◌≡◌, ℕ, suc, ◌<◌, List, [], ◌∷◌, ◌++◌, length, Option, Some, None, slice_set, refl, sym, ap, ◌∙◌, subst, arith}
 use Rattle.m5_terms.specs.TypeExpression.{TypeExpression}
 use Rattle.m5_cps.specs.Entries as entries
-use Rattle.m5_cps.specs.Blocks as blocks
 use Rattle.m5_cps.specs.Blocks.{Code, closure, test, ends, done}
 use Rattle.m5_cps.specs.declared.entry.Entry.{Entry}
 use Rattle.m5_cps.specs.declared.step.Test.{Test}
@@ -25,10 +24,10 @@ use Rattle.m5_cps_convert.specs.declared.walk.Goal.TheVariants as goals
 use Rattle.m5_cps_convert.specs.declared.walk.Value.{Value}
 use Rattle.m5_cps_convert.specs.declared.closing.Pending.{Pending}
 use Rattle.m5_cps_convert.specs.declared.closing.Held.{Held}
-use Rattle.m5_cps_convert.specs.code.Writing.{Keeps, Grows, Completes, Goes, Writes, Finishes, MeansEntry}
-use Rattle.m5_cps_convert.specs.code.Closing.{Opens, Behind, Before, HoldsTail, HoldsOpen, Holds, IsThere, HeldIsOpen, Continues, Resumes}
-use Rattle.m5_cps_convert.proofs.Growing.{keeps_self, keeps_trans, pushed_length, grows_self, grows_trans, grows_push}
-use Rattle.m5_cps_convert.proofs.Written.{completes_first, completes_rest, ended_stands}
+use Rattle.m5_cps_convert.specs.code.Writing.{Keeps, Grows, Completes, Writes, Finishes, MeansEntry}
+use Rattle.m5_cps_convert.specs.code.Closing.{Opens, Behind, Before, HoldsOpen, Holds, IsThere, HeldIsOpen, Continues, Resumes}
+use Rattle.m5_cps_convert.proofs.Growing.{keeps_self, pushed_length, grows_self, grows_trans, grows_push}
+use Rattle.m5_cps_convert.proofs.Written.{completes_rest, ended_stands}
 use Rattle.m5_cps_convert.proofs.Patched.{Patched, behind, same_end, further_end, patched_grows, patched_there, completes_between}
 
 -- what is written for a continuation in a slot, or at a thread's end, ends

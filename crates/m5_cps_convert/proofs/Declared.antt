@@ -1,11 +1,9 @@
 -- What a declaration binds over the rest of its `let`.
-use Rattle.std.proofs.Common.{◌≡◌, ℕ, suc, List, [], ◌∷◌, ◌++◌, length, Some, refl, sym, ap, ◌∙◌, subst}
-use Rattle.m5_terms.specs.Table.{entries}
+use Rattle.std.proofs.Common.{◌≡◌, ℕ, suc, List, [], ◌∷◌, ◌++◌, length, sym, ap, ◌∙◌, subst}
 use Rattle.m5_terms.specs.declared.form.BinaryForm.{BinaryForm}
 use Rattle.m5_terms.specs.declared.form.BinaryForm.TheVariants as binary_form
 use Rattle.m5_terms.specs.declared.table.Binding.TheVariants.{One}
 use Rattle.m5_typing.specs.Context.{local, valid}
-use Rattle.m5_cps.specs.Blocks.{Code}
 use Rattle.m5_cps.specs.TypeParts.{content_of, place_of}
 use Rattle.m5_cps.specs.Steps.{code_at}
 use Rattle.m5_cps.specs.declared.step.Straight.TheVariants as straights

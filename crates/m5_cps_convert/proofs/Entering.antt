@@ -22,7 +22,7 @@ use Rattle.m5_cps.specs.Running.{run, entered_by, called_by, declared_block, sta
 use Rattle.m5_cps_convert.specs.Scopes.{Scope, bind, in_block, fn_scope, rec_scope}
 use Rattle.m5_cps_convert.specs.Closing.{Values, hide, close}
 use Rattle.m5_cps_convert.specs.Proper.{Proper}
-use Rattle.m5_cps_convert.specs.Statics.{Static, STop, STail, SBack, SFirst, SSecond, SArgument, Works}
+use Rattle.m5_cps_convert.specs.Statics.{Static, STop, STail, SBack, SHome, SFirst, SSecond, SArgument, Works}
 use Rattle.m5_cps_convert.specs.Slots.{SVal, SKont, SGoal, SStart}
 use Rattle.m5_cps_convert.specs.Narrow.{Narrow}
 use Rattle.m5_cps_convert.specs.Reading.{setting, Reads}
@@ -38,7 +38,7 @@ use Rattle.m5_cps_convert.proofs.Slots.{In, Grows, grows_on, put_grows, put_has,
 use Rattle.m5_cps_convert.proofs.Meets.{W, src, timed, Tied, tied_by, behind, Meets, bonus, Resumes, Evals}
 use Rattle.m5_cps_convert.proofs.Heads.{Head, atoms, fns, recs, head_of}
 use Rattle.m5_cps_convert.proofs.Straight.{value_back}
-use Rattle.m5_cps_convert.proofs.Ends.{tail_resumes, top_resumes}
+use Rattle.m5_cps_convert.proofs.Ends.{tail_resumes}
 
 abbrev pub units_everywhere : Values
 units_everywhere z = Some unit_term
@@ -123,6 +123,7 @@ module _ (P : Program) (u : World) (site : IsSiteWorld u) (good : Good P) (evals
   works_bonus (STail k) h = absurd h
   works_bonus STop h = refl
   works_bonus (SBack a k) h = refl
+  works_bonus (SHome w k) h = refl
   works_bonus (SFirst Γ e K) h = refl
   works_bonus (SSecond Γ e x K) h = refl
   works_bonus (SArgument Γ p b K) h = refl
@@ -159,16 +160,16 @@ module _ (P : Program) (u : World) (site : IsSiteWorld u) (good : Good P) (evals
         (subst (λ y. Meets P u (run u y (suc (suc n)) ρ2 (entering t)) (src s fs (Eval u (close r.values r.node)))) (sym r.code)
         ((evals r.node).by (STail (suc n)) (tail_resumes P u site (suc n)) (entering t) s (suc (suc n)) ρ2 r.scope r.values fs u r.proper (inl refl) (fits_on r.scope r.values g r.fits) (put_has P ρ1 (suc n) x (SKont u fs) rx) h (subst (λ y. Narrow (W P) y (suc (suc n))) r.code r.narrow)))
 
-    pub start_entered : (k x : Value) (e : Expression) (t : Site) (s : meaning.Site) → Reads P k (SStart e) → Tied P u 1 0 (entering t) s → Meets P u (started u t (entered_by k x)) (src s [] (Eval u e))
-    start_entered (atom f) x e t s r h = absurd r
-    start_entered (wrap f d) x e t s r h = absurd r
-    start_entered (join f d d2) x e t s r h = absurd r
-    start_entered (closed (over (by_call m A B) n c) ρ) x e t s r h = absurd r
-    start_entered (closed (over (by_value m T) n c) ρ) x e t s r h =
+    pub start_entered : (k x : Value) (e : Expression) (fs : List Frame) (t : Site) (s : meaning.Site) → Reads P k (SStart u fs e) → Tied P u 1 0 (entering t) s → Meets P u (started u t (entered_by k x)) (src s fs (Eval u e))
+    start_entered (atom f) x e fs t s r h = absurd r
+    start_entered (wrap f d) x e fs t s r h = absurd r
+    start_entered (join f d d2) x e fs t s r h = absurd r
+    start_entered (closed (over (by_call m A B) n c) ρ) x e fs t s r h = absurd r
+    start_entered (closed (over (by_value m T) n c) ρ) x e fs t s r h =
         let self : Value = closed (over (by_value m T) n c) ρ in
         let ρ1 : ℕ → Value = put n self ρ in
         let ρ2 : ℕ → Value = put (suc n) x ρ1 in
         let g : Grows (In P ρ) n (In P ρ2) (suc (suc n)) = grows_on (put_grows P ρ n self) (put_grows P ρ1 (suc n) x) in
-        subst (λ y. Meets P u (run u c (suc (suc n)) ρ2 (entering t)) (src s [] (Eval u y))) (sym r.is)
-        (subst (λ y. Meets P u (run u y (suc (suc n)) ρ2 (entering t)) (src s [] (Eval u (close r.values r.node)))) (sym r.code)
-        ((evals r.node).by STop (top_resumes P u site) (entering t) s (suc (suc n)) ρ2 r.scope r.values [] u r.proper (inl refl) (fits_on r.scope r.values g r.fits) refl h (subst (λ y. Narrow (W P) y (suc (suc n))) r.code r.narrow)))
+        subst (λ y. Meets P u (run u c (suc (suc n)) ρ2 (entering t)) (src s fs (Eval u y))) (sym r.is)
+        (subst (λ y. Meets P u (run u y (suc (suc n)) ρ2 (entering t)) (src s fs (Eval u (close r.values r.node)))) (sym r.code)
+        ((evals r.node).by r.static (resumes r.static) (entering t) s (suc (suc n)) ρ2 r.scope r.values fs u r.proper (inl refl) (fits_on r.scope r.values g r.fits) (frames_on u r.static fs g r.frames) h (subst (λ y. Narrow (W P) y (suc (suc n))) r.code r.narrow)))

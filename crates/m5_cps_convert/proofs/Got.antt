@@ -1,10 +1,9 @@
 -- Gets: what goes on here, or is sent to another world.
-use Rattle.std.proofs.Common.{◌≡◌, ℕ, suc, List, [], ◌∷◌, ◌++◌, length, Option, Some, None, slice_set, refl, sym, ap, ◌∙◌, subst, cond, if◌then◌else◌}
+use Rattle.std.proofs.Common.{◌≡◌, ℕ, suc, List, [], ◌∷◌, ◌++◌, length, None, slice_set, refl, sym, ap, ◌∙◌, subst}
 use Rattle.m5_terms.specs.TypeExpression.{TypeExpression}
 use Rattle.m5_terms.specs.Table.{entries}
 use Rattle.m5_terms.specs.declared.types.World.{World}
 use Rattle.m5_terms.specs.declared.form.LeafForm.TheVariants as leaf_form
-use Rattle.m5_typing.specs.Context.{Setting}
 use Rattle.m5_cps.specs.Entries as entry
 use Rattle.m5_cps.specs.Blocks as blocks
 use Rattle.m5_cps.specs.Blocks.{Code}
@@ -24,8 +23,6 @@ use Rattle.m5_cps.specs.declared.step.Ending.{Ending}
 use Rattle.m5_cps.specs.declared.step.Ending.TheVariants as endings
 use Rattle.m5_cps.specs.declared.step.Step.{Step}
 use Rattle.m5_cps.specs.declared.step.Step.TheVariants as steps
-use Rattle.m5_cps_convert.specs.Scopes.{Scope}
-use Rattle.m5_cps_convert.specs.Continuations.{Continuation}
 use Rattle.m5_cps_convert.specs.Forms.{back_code, get_variable}
 use Rattle.m5_cps_convert.specs.declared.walk.Walk.{Walk}
 use Rattle.m5_cps_convert.specs.declared.walk.Around.{Around}
@@ -35,16 +32,15 @@ use Rattle.m5_cps_convert.specs.declared.names.Seen.{Seen}
 use Rattle.m5_cps_convert.specs.declared.closing.Pending.{Pending}
 use Rattle.m5_cps_convert.specs.declared.gets.Sent.{Sent}
 use Rattle.m5_cps_convert.specs.declared.gets.Sent.TheVariants as sents
-use Rattle.m5_cps_convert.specs.code.Types.{IsAt}
 use Rattle.m5_cps_convert.specs.code.Writing.{Keeps, Grows, Writes, Finishes, Means, MeansEntry}
 use Rattle.m5_cps_convert.specs.code.Closing.{Opens, Behind}
-use Rattle.m5_cps_convert.specs.code.Knowing.{IsSeen, Knows}
+use Rattle.m5_cps_convert.specs.code.Knowing.{IsSeen}
 use Rattle.m5_cps_convert.specs.code.Choices.{BeginsTest, EndsTest}
 use Rattle.m5_cps_convert.specs.code.Gets.{here_ending, away_ending, away_code, sent_code, SendsAway, Sends, GetsVariable}
 use Rattle.m5_cps_convert.proofs.Growing.{keeps_self, grows_trans, grows_push}
 use Rattle.m5_cps_convert.proofs.Written.{straight_writes}
 use Rattle.m5_cps_convert.proofs.Patched.{Patched, patched_grows}
-use Rattle.m5_cps_convert.proofs.Closed.{tail_finishes, behind_patches, closed_writes, tested, ending_finishes}
+use Rattle.m5_cps_convert.proofs.Closed.{tail_finishes, closed_writes, tested, ending_finishes}
 use Rattle.m5_cps_convert.proofs.Bodies.{closed_grows}
 use Rattle.m5_cps_convert.proofs.Known.{at_kept}
 

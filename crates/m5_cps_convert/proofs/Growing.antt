@@ -1,11 +1,10 @@
 -- Lists that keep their items, and states of the walk that grow.
-use Rattle.std.proofs.Common.{◌≡◌, ◌≢◌, ℕ, suc, ◌+◌, ◌<◌, ◌≤◌, List, [], ◌∷◌, ◌++◌, length, Option, Some, None, slice_get, slice_set, set, get_or, refl, sym, ap, ◌∙◌, subst, arith, length-append, length-set, get_or-set_same, get_or-set_other}
+use Rattle.std.proofs.Common.{◌≡◌, ◌≢◌, ℕ, suc, ◌<◌, List, [], ◌∷◌, ◌++◌, length, Some, slice_get, slice_set, refl, ap, ◌∙◌, arith, length-set, get_or-set_same, get_or-set_other}
 use Rattle.std.proofs.lemmas.Option.{slice_get_within, slice_get-get_or, get_or_from_slice_get}
-use Rattle.m5_terms.specs.Table.{entries}
 use Rattle.m5_cps.specs.declared.step.Step.{Step}
 use Rattle.m5_cps.proofs.Lists.{get_before, get_last, length_push}
 use Rattle.m5_cps_convert.specs.declared.walk.Walk.{Walk}
-use Rattle.m5_cps_convert.specs.code.Writing.{Keeps, Grows, Completes}
+use Rattle.m5_cps_convert.specs.code.Writing.{Keeps, Grows}
 
 pub keeps_self : {A : Type 0} (xs : List A) → Keeps xs xs
 keeps_self xs = record { each = λ k a e. e }

@@ -18,7 +18,6 @@ use Rattle.m5_cps_convert.specs.declared.walk.Walk.{Walk}
 use Rattle.m5_cps_convert.specs.declared.walk.Kind.TheVariants.{Local}
 use Rattle.m5_cps_convert.specs.declared.walk.Known.{Known}
 use Rattle.m5_cps_convert.specs.declared.walk.Around.{Around}
-use Rattle.m5_cps_convert.specs.declared.functions.Head.{Head}
 use Rattle.m5_cps_convert.specs.code.Types.{IsAt, RowAdded, TypeAdded}
 use Rattle.m5_cps_convert.specs.code.Writing.{Keeps}
 use Rattle.m5_cps_convert.specs.code.Knowing.{Knows}

@@ -6,19 +6,16 @@ use Rattle.m5_terms.specs.declared.types.Primitive.{Primitive}
 use Rattle.m5_terms.specs.declared.form.BinaryForm.{BinaryForm}
 use Rattle.m5_terms.specs.declared.form.BinaryForm.TheVariants as binary_form
 use Rattle.m5_cps.specs.Blocks as blocks
-use Rattle.m5_cps.specs.Entries as entry
 use Rattle.m5_cps.specs.TypeParts.{result_of, binary_whole}
-use Rattle.m5_cps.specs.Steps.{mode_of}
 use Rattle.m5_cps.specs.declared.entry.Entry.{Entry}
 use Rattle.m5_cps.specs.declared.entry.Entry.TheVariants as ways
 use Rattle.m5_cps.specs.declared.entry.Argument.TheVariants as takings
-use Rattle.m5_cps.specs.declared.step.Ending.{Ending}
 use Rattle.m5_cps.specs.declared.step.Ending.TheVariants as endings
 use Rattle.m5_cps.specs.declared.step.Straight.TheVariants as straights
 use Rattle.m5_cps.specs.declared.step.Step.{Step}
 use Rattle.m5_cps.specs.declared.step.Step.TheVariants as steps
-use Rattle.m5_cps_convert.specs.Scopes.{Scope, empty_scope}
-use Rattle.m5_cps_convert.specs.Continuations.{Continuation, apply, reify, taking}
+use Rattle.m5_cps_convert.specs.Scopes.{Scope}
+use Rattle.m5_cps_convert.specs.Continuations.{Continuation, apply, taking}
 use Rattle.m5_cps_convert.specs.Forms.{binary_end}
 use Rattle.m5_cps_convert.specs.Convert.{ask_code}
 use Rattle.m5_cps_convert.specs.declared.walk.Walk.{Walk}
@@ -27,10 +24,10 @@ use Rattle.m5_cps_convert.specs.declared.walk.Goal.{Goal}
 use Rattle.m5_cps_convert.specs.declared.walk.Value.{Value}
 use Rattle.m5_cps_convert.specs.declared.closing.Held.{Held}
 use Rattle.m5_cps_convert.specs.code.Types.{IsAt, IsPart, TypeAdded}
-use Rattle.m5_cps_convert.specs.code.Writing.{Keeps, Grows, Writes, Gives}
+use Rattle.m5_cps_convert.specs.code.Writing.{Keeps, Grows, Gives}
 use Rattle.m5_cps_convert.specs.code.Closing.{Holds, Resumes}
 use Rattle.m5_cps_convert.specs.code.TwoParts.{IsNoCall, WritesAsk, WritesTwo, MakesWhole}
-use Rattle.m5_cps_convert.proofs.Growing.{keeps_self, keeps_trans, grows_trans, grows_push}
+use Rattle.m5_cps_convert.proofs.Growing.{grows_trans, grows_push}
 use Rattle.m5_cps_convert.proofs.Closed.{held_grows, held_writes, ending_finishes, taking_means}
 use Rattle.m5_cps_convert.proofs.Added.{adds, writes_added}
 use Rattle.m5_cps_convert.proofs.Known.{at_kept}

@@ -1,12 +1,11 @@
 -- What is known of a scope stays known as types are added, inside binders, in blocks and under shams.
-use Rattle.std.proofs.Common.{◌≡◌, ◌≢◌, ◌==◌, ◌<◌, ◌≤◌, ◌⊎◌, inl, inr, ℕ, suc, Bool, true, false, cond, if◌then◌else◌, List, Option, Some, None, slice_get, refl, sym, ap, ◌∙◌, subst, arith}
+use Rattle.std.proofs.Common.{◌≡◌, ◌==◌, ◌<◌, ◌≤◌, ◌⊎◌, inl, inr, ℕ, suc, Bool, true, false, if◌then◌else◌, List, Option, Some, None, slice_get, refl, sym, ap, ◌∙◌, subst, arith}
 use Rattle.std.proofs.lemmas.Bool.Decides.{eqb_tells}
-use Rattle.m5_terms.specs.TypeExpression.{TypeExpression, unit}
-use Rattle.m5_terms.specs.Table.{entries, put}
+use Rattle.m5_terms.specs.TypeExpression.{TypeExpression}
+use Rattle.m5_terms.specs.Table.{put}
 use Rattle.m5_terms.specs.declared.types.World.{World}
-use Rattle.m5_typing.specs.Context.{Bound, local, valid, Setting, with, valid_part, if_valid}
+use Rattle.m5_typing.specs.Context.{Bound, local, valid, Setting, if_valid}
 use Rattle.m5_cps.specs.Entries as entry
-use Rattle.m5_cps.specs.TypeParts.{bound_type}
 use Rattle.m5_cps.specs.Steps.{mode_of}
 use Rattle.m5_cps.specs.declared.entry.Mode.{Mode}
 use Rattle.m5_cps.specs.declared.entry.Mode.TheVariants as modes
@@ -17,7 +16,7 @@ use Rattle.m5_cps_convert.specs.declared.walk.Known.{Known}
 use Rattle.m5_cps_convert.specs.declared.walk.Around.{Around}
 use Rattle.m5_cps_convert.specs.code.Types.{IsAt}
 use Rattle.m5_cps_convert.specs.code.Writing.{Keeps}
-use Rattle.m5_cps_convert.specs.code.Knowing.{IsLocal, IsValid, HasBound, IsKnown, IsDeclared, Knows}
+use Rattle.m5_cps_convert.specs.code.Knowing.{IsLocal, HasBound, IsKnown, IsDeclared, Knows}
 
 pub at_kept : {L M : List TypeExpression} {n : ℕ} {A : TypeExpression} → Keeps L M → IsAt L n A → IsAt M n A
 at_kept {L} {M} {n} {A} k a = record { is = k.each n A a.is }

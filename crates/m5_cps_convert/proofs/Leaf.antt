@@ -1,38 +1,29 @@
 -- Forms without parts.
-use Rattle.std.proofs.Common.{◌≡◌, ℕ, suc, List, Option, Some, None, length, slice_get, refl, sym, ap, ◌∙◌, subst, arith}
+use Rattle.std.proofs.Common.{◌≡◌, ℕ, List, Some, None, slice_get, refl, sym, ap, ◌∙◌, subst}
 use Rattle.m5_terms.specs.Expression.{leaf}
 use Rattle.m5_terms.specs.TypeExpression as type
 use Rattle.m5_terms.specs.TypeExpression.{TypeExpression}
 use Rattle.m5_terms.specs.Table.{entries}
-use Rattle.m5_terms.specs.declared.form.LeafForm.{LeafForm}
 use Rattle.m5_terms.specs.declared.form.LeafForm.TheVariants as leaf_form
 use Rattle.m5_typing.specs.Context.{Setting}
 use Rattle.m5_cps.specs.Blocks as blocks
-use Rattle.m5_cps.specs.Entries.{world_of}
-use Rattle.m5_cps.specs.TypeParts.{bound_type, leaf_type}
+use Rattle.m5_cps.specs.TypeParts.{bound_type}
 use Rattle.m5_cps.specs.TypesByNumber.{or_unit, type_in}
-use Rattle.m5_cps.specs.Steps.{code_at}
 use Rattle.m5_cps.specs.declared.types.TypeRow.TheVariants as row
-use Rattle.m5_cps.specs.declared.step.Constant.{Constant}
 use Rattle.m5_cps.specs.declared.step.Constant.TheVariants as constants
-use Rattle.m5_cps.specs.declared.step.Step.{Step}
 use Rattle.m5_cps.specs.declared.step.Straight.TheVariants as straights
 use Rattle.m5_cps_convert.specs.Scopes.{Scope}
-use Rattle.m5_cps_convert.specs.Continuations.{Continuation, apply, variable_code, constant_code}
-use Rattle.m5_cps_convert.specs.Convert.{cps}
+use Rattle.m5_cps_convert.specs.Continuations.{Continuation, variable_code, constant_code}
 use Rattle.m5_cps_convert.specs.declared.walk.Walk.{Walk}
 use Rattle.m5_cps_convert.specs.declared.walk.Around.{Around}
 use Rattle.m5_cps_convert.specs.declared.walk.Goal.{Goal}
 use Rattle.m5_cps_convert.specs.declared.walk.Value.{Value}
 use Rattle.m5_cps_convert.specs.declared.names.Seen.{Seen}
-use Rattle.m5_cps_convert.specs.declared.leaves.Leaf.{Leaf}
 use Rattle.m5_cps_convert.specs.code.Types.{IsAt, RowAdded, TypeAdded}
-use Rattle.m5_cps_convert.specs.code.Writing.{Keeps, Grows, Completes, Goes, Writes, WritesValue, Means, Gives}
+use Rattle.m5_cps_convert.specs.code.Writing.{Keeps, Writes, Gives}
 use Rattle.m5_cps_convert.specs.code.Knowing.{IsSeen, Knows}
-use Rattle.m5_cps_convert.specs.code.Emitting.{IsOther, AddsTypes, Emits, IsLeaf}
-use Rattle.m5_cps_convert.specs.code.Leaves.{MakesLeaf}
-use Rattle.m5_cps_convert.proofs.Growing.{keeps_self, keeps_trans, keeps_push, pushed_there, grows_trans}
-use Rattle.m5_cps_convert.proofs.Written.{completes_rest}
+use Rattle.m5_cps_convert.specs.code.Emitting.{Emits, IsLeaf}
+use Rattle.m5_cps_convert.proofs.Growing.{keeps_trans, keeps_push, pushed_there}
 use Rattle.m5_cps_convert.proofs.Added.{adds}
 use Rattle.m5_cps_convert.proofs.Known.{at_kept}
 

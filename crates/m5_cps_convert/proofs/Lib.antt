@@ -17,6 +17,8 @@ pub mod CallForms
 pub mod Binding
 pub mod MatchedChoices
 pub mod Moves
+pub mod Leaving
+pub mod Homeward
 pub mod MatchedGets
 pub mod Asked
 pub mod Entering
@@ -54,6 +56,7 @@ pub mod Headed
 pub mod Bodies
 pub mod Binaries
 pub mod Got
+pub mod Departing
 pub mod Nested
 pub mod Choosing
 pub mod Assembled

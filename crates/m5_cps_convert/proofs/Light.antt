@@ -1,5 +1,5 @@
 -- What is sent is light: a value, a continuation or a goal takes no more than four times what it is read back to.
-use Rattle.std.proofs.Common.{◌≡◌, ℕ, suc, ◌+◌, ◌*◌, ◌≤◌, inl, inr, List, [], ◌∷◌, Option, Some, None, IsTrue, refl, sym, ap, subst, arith}
+use Rattle.std.proofs.Common.{◌≡◌, ℕ, suc, ◌+◌, ◌*◌, ◌≤◌, inl, inr, List, [], ◌∷◌, ◌++◌, Option, Some, None, IsTrue, refl, sym, ap, subst, arith}
 use Rattle.std.proofs.lemmas.List.Sums.{sum_by-cons}
 use Rattle.m5_terms.specs.TypeExpression.{TypeExpression}
 use Rattle.m5_terms.specs.Expression.{Expression, leaf, unary, binary, ternary}
@@ -19,21 +19,21 @@ use Rattle.m5_cps_convert.specs.Scopes.{Scope, fn_scope, rec_scope}
 use Rattle.m5_cps_convert.specs.Continuations.{apply, body_code, goal_code}
 use Rattle.m5_cps_convert.specs.Convert.{cps}
 use Rattle.m5_cps_convert.specs.Closing.{Values, hide, close}
-use Rattle.m5_cps_convert.specs.Statics.{Static, STop, STail, SBack, SFirst, SSecond, SArgument, kont, Works}
+use Rattle.m5_cps_convert.specs.Statics.{Static, STop, STail, SBack, SHome, SFirst, SSecond, SArgument, kont, Works}
 use Rattle.m5_cps_convert.specs.Slots.{SVal, SKont, FitsAt, Fits, Frames}
 use Rattle.m5_cps_convert.specs.Reading.{setting, wrapped, joined, Reads}
 use Rattle.m5_terms.specs.Size.{node_size, frame_size, frames_size}
 use Rattle.m5_terms.specs.Substitution.{among}
 use Rattle.m5_meaning.specs.Parts.{parts, fill}
-use Rattle.m5_cps_convert.proofs.Occurrences.{hidden, slots_of, shown, is_among, cost, AreLight, hidden_light, all_total, spare_total}
-use Rattle.m5_cps_convert.proofs.StaticUses.{static_slots, static_safe}
-use Rattle.m5_cps_convert.specs.Forms.{variable_of}
+use Rattle.m5_cps_convert.proofs.Occurrences.{hidden, slots_of, shown, among_left, among_right, is_among, cost, AreLight, hidden_light, all_total, spare_total}
+use Rattle.m5_cps_convert.proofs.StaticUses.{static_slots, static_safe, first_among}
+use Rattle.m5_cps_convert.specs.Forms.{homeward, variable_of}
 use Rattle.m5_cps_convert.specs.Statics.{direct_call}
 use Rattle.m5_cps_convert.specs.Reading.{KontReads}
 use Rattle.m5_cps_convert.proofs.Addresses.{address_value}
 use Rattle.m5_cps_convert.proofs.Slots.{In}
 use Rattle.m5_cps_convert.proofs.Sums.{total, total_append, used_by}
-use Rattle.m5_cps_convert.proofs.Uses.{Safe, used, body_safe, goal_safe, one_known, two_known, fresh}
+use Rattle.m5_cps_convert.proofs.Uses.{Safe, used, home_safe, body_safe, goal_safe, one_known, two_known, fresh}
 
 -- the variables' values are light, where all values of slots are
 fits_light : (P : Program) (ρ : ℕ → Value) (n : ℕ) (Γ : Scope) (γ : Values) → ((l : ℕ) (v : Expression) → Reads P (ρ l) (SVal v) → value_units (ρ l) + 2 ≤ 4 * node_size v) → Fits (In P ρ) n Γ γ → AreLight ρ Γ.slots γ
@@ -104,6 +104,7 @@ module _ (P : Program) (n : ℕ) (ρ : ℕ → Value) (values : (l : ℕ) (v : E
     frames_total u STop fs h = omega arith
     frames_total u (STail k) fs h = omega (arith, konts k u fs h.1)
     frames_total u (SBack a k) fs h = subst (λ y. total (cost ρ) (static_slots (SBack a k)) ≤ 4 * frames_size y + 3) (sym h.is) (omega (arith, konts k h.world h.below h.continuation.1, address_units (ρ a) h.world h.address.1, sum_by-cons frame_size (frame.Return h.world) h.below))
+    frames_total u (SHome w k) fs h = subst (λ y. total (cost ρ) (static_slots (SHome w k)) ≤ 4 * frames_size y + 3) (sym h.is) (omega (arith, konts k w h.below h.continuation.1, sum_by-cons frame_size (frame.Return w) h.below))
     frames_total u (SFirst Γ e K) fs h = subst (λ y. total (cost ρ) (static_slots (SFirst Γ e K)) ≤ 4 * frames_size y + 3) (sym h.is) (omega (arith, total_append (cost ρ) (slots_of e Γ.slots) (static_slots K), all_total ρ e Γ.slots h.values (light Γ h.values h.fits), frames_total u K h.below h.rest, sum_by-cons frame_size (frame.Part h.world (close h.values e) 0) h.below))
     frames_total u (SSecond Γ e x K) fs h = subst (λ y. total (cost ρ) (static_slots (SSecond Γ e x K)) ≤ 4 * frames_size y + 3) (sym h.is) (omega (arith, values x h.first h.has.1, fill_size e h.values h.first h.has_parts, frames_total u K h.below h.rest, sum_by-cons frame_size (frame.Part h.world (fill (close h.values e) 0 h.first) 1) h.below))
     frames_total u (SArgument Γ p b K) fs h = subst (λ y. total (cost ρ) (static_slots K) ≤ 4 * frames_size y + 3) (sym h.is) (omega (arith, frames_total u K h.below h.rest, sum_by-cons frame_size (frame.Part u (direct_call p h.argument) 1) h.below))
@@ -113,6 +114,7 @@ module _ (P : Program) (n : ℕ) (ρ : ℕ → Value) (values : (l : ℕ) (v : E
     works_total u STop fs w h = omega arith
     works_total u (STail k) fs w h = absurd w
     works_total u (SBack a k) fs w h = subst (λ y. total (cost ρ) (static_slots (SBack a k)) ≤ 4 * frames_size y) (sym h.is) (omega (arith, konts k h.world h.below h.continuation.1, address_units (ρ a) h.world h.address.1, sum_by-cons frame_size (frame.Return h.world) h.below))
+    works_total u (SHome y k) fs w h = subst (λ z. total (cost ρ) (static_slots (SHome y k)) ≤ 4 * frames_size z) (sym h.is) (omega (arith, konts k y h.below h.continuation.1, sum_by-cons frame_size (frame.Return y) h.below))
     works_total u (SFirst Γ e K) fs w h = subst (λ y. total (cost ρ) (static_slots (SFirst Γ e K)) ≤ 4 * frames_size y) (sym h.is) (omega (arith, total_append (cost ρ) (slots_of e Γ.slots) (static_slots K), all_total ρ e Γ.slots h.values (light Γ h.values h.fits), frames_total u K h.below h.rest, sum_by-cons frame_size (frame.Part h.world (close h.values e) 0) h.below))
     works_total u (SSecond Γ e x K) fs w h = subst (λ y. total (cost ρ) (static_slots (SSecond Γ e x K)) ≤ 4 * frames_size y) (sym h.is) (omega (arith, values x h.first h.has.1, fill_size e h.values h.first h.has_parts, frames_total u K h.below h.rest, sum_by-cons frame_size (frame.Part h.world (fill (close h.values e) 0 h.first) 1) h.below))
     works_total u (SArgument Γ p b K) fs w h = subst (λ y. total (cost ρ) (static_slots K) ≤ 4 * frames_size y) (sym h.is) (omega (arith, frames_total u K h.below h.rest, sum_by-cons frame_size (frame.Part u (direct_call p h.argument) 1) h.below))
@@ -145,3 +147,15 @@ kont_light P k u fs r = (is_light P k).kont u fs r
 
 pub goal_light : (P : Program) (n : ℕ) (m : Mode) (T : SlotType) (ρ : ℕ → Value) (Γ : Scope) (γ : Values) (b : Expression) → Fits (In P ρ) n Γ γ → variable_of b ≡ None → value_units (closed (over (by_value m T) n (goal_code (cps (setting P) b) Γ n)) ρ) + 2 ≤ 4 * node_size (close γ b)
 goal_light P n m T ρ Γ γ b f q = omega (arith, goal_taken P n ρ (λ l. value_light P (ρ l)) Γ γ b f q)
+
+-- a block for a term that sends its value home takes the continuation there with it
+pub home_light : (P : Program) (n : ℕ) (m : Mode) (T : SlotType) (ρ : ℕ → Value) (Γ : Scope) (γ : Values) (b : Expression) (w : World) (k : ℕ) (fs : List Frame) → Fits (In P ρ) n Γ γ → variable_of b ≡ None → Reads P (ρ k) (SKont w fs)
+    → value_units (closed (over (by_value m T) n (cps (setting P) b Γ (suc (suc n)) (homeward w k))) ρ) ≤ 4 * node_size (close γ b) + (4 * frames_size fs + 1)
+home_light P n m T ρ Γ γ b w k fs f q r =
+    let ls : List ℕ = slots_of b Γ.slots in
+    let ks : List ℕ = ls ++ (k ∷ []) in
+    let c : Code = cps (setting P) b Γ (suc (suc n)) (homeward w k) in
+    let safe : Safe n (λ l. IsTrue (among l ks)) c =
+    used n (λ l. IsTrue (among l ks)) (setting P) b Γ (suc (suc n)) (homeward w k) (omega arith) (λ z l o e i. among_left l ls (k ∷ []) (is_among b Γ.slots z l o e))
+    (home_safe n (λ l. IsTrue (among l ks)) (setting P) w k (λ i. among_right k ls (k ∷ []) (first_among k []))) in
+    omega (arith, taken_by ρ n c ks safe, total_append (cost ρ) ls (k ∷ []), spare_total ρ b Γ.slots γ (fits_light P ρ n Γ γ (λ l. value_light P (ρ l)) f) q, kont_light P (ρ k) w fs r)

@@ -29,6 +29,7 @@ use Rattle.m5_cps.specs.Running.{front, ran}
 use Rattle.m5_cps.specs.Machine.{blocks_machine, blocks_moments, Making, point_of, is_entering, opening_site, opening_threads}
 use Rattle.m5_cps_convert.specs.Convert.{program_blocks}
 use Rattle.m5_cps_convert.specs.Scopes.{empty_scope}
+use Rattle.m5_cps_convert.specs.Statics.{STop}
 use Rattle.m5_cps_convert.specs.Moments.{readback, source_moments, IsPaid, paid}
 use Rattle.m5_cps_convert.specs.Laws.{BlocksPlay, BlocksOpen, OpeningsPlayFully, SentIsLight}
 use Rattle.m5_cps_convert.proofs.Meets.{Weighs, AtPoint, WrongMet, PointMet, NextMet, Meets}
@@ -105,7 +106,7 @@ module _ (P : Program) (u : World) (d : IsProgram P) (site : IsSiteWorld u) wher
 
 -- main's thread at home, and none elsewhere
 pub opens : BlocksOpen
-opens P Home d i = begins_as P Home d i (inr (inr (inr (record { node = P.main; start = record { narrow = main_narrow P d; scope = empty_scope (only Home); values = units_everywhere; node = P.main; proper = main_proper P d; fits = λ x. refl; code = refl; is = sym (main_stays P d units_everywhere) }; is = refl }))), tt)
+opens P Home d i = begins_as P Home d i (inr (inr (inr (record { frames = []; node = P.main; start = record { narrow = main_narrow P d; scope = empty_scope (only Home); values = units_everywhere; node = P.main; proper = main_proper P d; fits = λ x. refl; static = STop; code = refl; frames = refl; is = sym (main_stays P d units_everywhere) }; is = refl }))), tt)
 opens P Server d i = begins_as P Server d i tt
 opens P Panel d i = begins_as P Panel d i tt
 opens P Any d i = absurd (is-real Any i refl)

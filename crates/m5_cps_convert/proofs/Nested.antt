@@ -1,11 +1,8 @@
 -- Nested pairs, the outermost first.
-use Rattle.std.proofs.Common.{◌≡◌, ℕ, zero, suc, ◌+◌, ◌<◌, ◌≤◌, List, [], ◌∷◌, ◌++◌, length, Some, slice_get, IsTrue, refl, sym, ap, ◌∙◌, subst, arith}
+use Rattle.std.proofs.Common.{◌≡◌, ℕ, suc, List, [], ◌∷◌, ◌++◌, length, Some, slice_get, IsTrue, refl, sym, ap, ◌∙◌, subst, arith}
 use Rattle.m5_terms.specs.Expression.{Expression, binary}
-use Rattle.m5_terms.specs.TypeExpression as type
 use Rattle.m5_terms.specs.TypeExpression.{TypeExpression, product}
-use Rattle.m5_terms.specs.Table.{entries}
 use Rattle.m5_terms.specs.declared.form.BinaryForm.TheVariants.{Pair}
-use Rattle.m5_typing.specs.Context.{Setting}
 use Rattle.m5_typing.specs.Program.{in_text}
 use Rattle.m5_typing.proofs.Mobile.{both-right}
 use Rattle.m5_cps.specs.Blocks as blocks
@@ -17,7 +14,6 @@ use Rattle.m5_cps.specs.declared.step.Straight.TheVariants as straights
 use Rattle.m5_cps.specs.declared.step.Step.{Step}
 use Rattle.m5_cps.specs.declared.step.Step.TheVariants as steps
 use Rattle.m5_cps.proofs.Standing.{straight_stands}
-use Rattle.m5_cps_convert.specs.Scopes.{Scope}
 use Rattle.m5_cps_convert.specs.Continuations.{Continuation, Then, apply}
 use Rattle.m5_cps_convert.specs.Convert.{cps, type_in}
 use Rattle.m5_cps_convert.specs.declared.walk.Walk.{Walk}
@@ -27,8 +23,7 @@ use Rattle.m5_cps_convert.specs.declared.walk.Goal.TheVariants as goals
 use Rattle.m5_cps_convert.specs.declared.walk.Value.{Value}
 use Rattle.m5_cps_convert.specs.declared.pairs.Waiting.{Waiting}
 use Rattle.m5_cps_convert.specs.code.Types.{IsAt, RowAdded}
-use Rattle.m5_cps_convert.specs.code.Writing.{Keeps, Grows, Completes, WritesValue}
-use Rattle.m5_cps_convert.specs.code.Knowing.{Knows}
+use Rattle.m5_cps_convert.specs.code.Writing.{Keeps, WritesValue}
 use Rattle.m5_cps_convert.specs.code.Emitting.{Emits}
 use Rattle.m5_cps_convert.specs.code.Pairs.{nested, IsNested, MakesPair, PairsUp, PairsSoFar, PairsWait}
 use Rattle.m5_cps_convert.proofs.Growing.{keeps_push, pushed_there, pushed_length, grows_self, grows_trans}

@@ -1,5 +1,5 @@
 -- Forms of one part that are straight over its value.
-use Rattle.std.proofs.Common.{◌≡◌, ℕ, suc, List, Option, Some, refl, sym, ap, ◌∙◌, subst}
+use Rattle.std.proofs.Common.{◌≡◌, ℕ, List, Some, refl, sym, ap, ◌∙◌, subst}
 use Rattle.m5_terms.specs.Expression.{Expression, unary}
 use Rattle.m5_terms.specs.TypeExpression.{TypeExpression}
 use Rattle.m5_terms.specs.Table.{entries}
@@ -11,10 +11,9 @@ use Rattle.m5_cps.specs.Blocks as blocks
 use Rattle.m5_cps.specs.Entries.{world_of}
 use Rattle.m5_cps.specs.TypeParts.{unary_whole}
 use Rattle.m5_cps.specs.Steps.{mode_of}
-use Rattle.m5_cps.specs.declared.step.Operation.{Operation}
 use Rattle.m5_cps.specs.declared.step.Straight.TheVariants as straights
 use Rattle.m5_cps_convert.specs.Scopes.{Scope, in_sham}
-use Rattle.m5_cps_convert.specs.Continuations.{Continuation, Then, apply}
+use Rattle.m5_cps_convert.specs.Continuations.{Continuation, Then}
 use Rattle.m5_cps_convert.specs.Forms.{unary_rest}
 use Rattle.m5_cps_convert.specs.Convert.{cps, type_in}
 use Rattle.m5_cps_convert.specs.declared.walk.Walk.{Walk}
@@ -25,7 +24,7 @@ use Rattle.m5_cps_convert.specs.declared.walk.Value.{Value}
 use Rattle.m5_cps_convert.specs.declared.operations.Made.{Made}
 use Rattle.m5_cps_convert.specs.code.Types.{IsAt}
 use Rattle.m5_cps_convert.specs.code.Around.{IsPartAround}
-use Rattle.m5_cps_convert.specs.code.Writing.{Keeps, Writes, Goes, Gives}
+use Rattle.m5_cps_convert.specs.code.Writing.{Gives}
 use Rattle.m5_cps_convert.specs.code.Knowing.{Knows}
 use Rattle.m5_cps_convert.specs.code.Emitting.{Emits}
 use Rattle.m5_cps_convert.specs.code.Operations.{IsOperation, IsMade, WritesOperation}

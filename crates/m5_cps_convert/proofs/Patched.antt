@@ -1,12 +1,12 @@
 -- A step that was added and written again when the places that it names were known.
-use Rattle.std.proofs.Common.{◌≡◌, ◌≢◌, ℕ, suc, ◌+◌, ◌<◌, ◌≤◌, List, [], ◌∷◌, ◌++◌, length, Option, Some, slice_get, slice_set, refl, sym, ap, ◌∙◌, subst, arith}
+use Rattle.std.proofs.Common.{◌≡◌, suc, ◌<◌, List, [], ◌∷◌, ◌++◌, length, Some, slice_get, slice_set, refl, sym, ap, subst, arith}
 use Rattle.std.proofs.lemmas.Option.{slice_get_within}
 use Rattle.m5_terms.specs.Table.{entries}
 use Rattle.m5_terms.specs.TypeExpression.{TypeExpression}
 use Rattle.m5_cps.specs.declared.step.Step.{Step}
 use Rattle.m5_cps_convert.specs.declared.walk.Walk.{Walk}
 use Rattle.m5_cps_convert.specs.code.Writing.{Keeps, Grows, Completes}
-use Rattle.m5_cps_convert.proofs.Growing.{keeps_trans, keeps_push, pushed_length, set_other, set_same, set_length, grows_trans, grows_push}
+use Rattle.m5_cps_convert.proofs.Growing.{keeps_trans, pushed_length, set_other, set_same, set_length, grows_trans, grows_push}
 
 -- from u, a step was added, and where w was come to, it was written again
 pub record Patched (u v w x : Walk) (s : Step) : Type 0 where

@@ -16,7 +16,7 @@ use Rattle.m5_cps.specs.Values as value
 use Rattle.m5_cps.specs.Captured.{over, Value}
 use Rattle.m5_cps_convert.specs.Scopes.{Scope, bind}
 use Rattle.m5_cps_convert.specs.Closing.{Values}
-use Rattle.m5_cps_convert.specs.Statics.{Static, STop, STail, SBack, SFirst, SSecond, SArgument}
+use Rattle.m5_cps_convert.specs.Statics.{Static, STop, STail, SBack, SHome, SFirst, SSecond, SArgument}
 use Rattle.m5_cps_convert.specs.Slots.{Slot, SVal, SKont, Slots, Has, FitsAt, Fits, Frames}
 use Rattle.m5_cps_convert.specs.Reading.{wrapped, joined, IsAtom, Reads}
 use Rattle.m5_cps_convert.proofs.Substitutions.{put_same, put_other, AllFixed, under_fixed}
@@ -51,6 +51,7 @@ pub frames_on : {P Q : Slots} {n m : ℕ} (u : World) (K : Static) (fs : List Fr
 frames_on u STop fs g h = h
 frames_on u (STail k) fs g h = has_on k (SKont u fs) g h
 frames_on u (SBack a k) fs g h = record { world = h.world; below = h.below; address = has_on a (SVal (leaf (leaf_form.Addr h.world))) g h.address; continuation = has_on k (SKont h.world h.below) g h.continuation; is = h.is }
+frames_on u (SHome w k) fs g h = record { below = h.below; continuation = has_on k (SKont w h.below) g h.continuation; is = h.is }
 frames_on u (SFirst Γ e K) fs g h = record { world = h.world; values = h.values; below = h.below; has_part = h.has_part; slotted = h.slotted; proper = h.proper; stands = h.stands; fits = fits_on Γ h.values g h.fits; is = h.is; rest = frames_on u K h.below g h.rest }
 frames_on u (SSecond Γ e x K) fs g h = record { world = h.world; values = h.values; first = h.first; below = h.below; has_parts = h.has_parts; stands = h.stands; has = has_on x (SVal h.first) g h.has; is = h.is; rest = frames_on u K h.below g h.rest }
 frames_on u (SArgument Γ p b K) fs g h = record { argument = h.argument; below = h.below; is = h.is; rest = frames_on u K h.below g h.rest }

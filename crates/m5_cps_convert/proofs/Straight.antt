@@ -28,7 +28,7 @@ use Rattle.m5_cps.specs.Captured.{Closure, over, Value, Thread, Site, captured}
 use Rattle.m5_cps.specs.Running.{run}
 use Rattle.m5_cps_convert.specs.Continuations.{variable_code}
 use Rattle.m5_cps_convert.specs.Closing.{value_or}
-use Rattle.m5_cps_convert.specs.Statics.{Static, STop, STail, SBack, SFirst, SSecond, SArgument, kont}
+use Rattle.m5_cps_convert.specs.Statics.{Static, STop, STail, SBack, SHome, SFirst, SSecond, SArgument, kont}
 use Rattle.m5_cps_convert.specs.Slots.{SVal, FitsAt, Frames}
 use Rattle.m5_cps_convert.specs.Narrow.{Narrow}
 use Rattle.m5_cps_convert.specs.Reading.{setting, wrapped, joined, IsAtom, Reads}
@@ -101,6 +101,7 @@ module _ (P : Program) (u : World) (site : IsSiteWorld u) where
   bonus_least STop = omega arith
   bonus_least (STail k) = omega arith
   bonus_least (SBack h k) = omega arith
+  bonus_least (SHome w k) = omega arith
   bonus_least (SFirst Γ e K) = omega arith
   bonus_least (SSecond Γ e x K) = omega arith
   bonus_least (SArgument Γ p b K) = omega arith

@@ -1,6 +1,6 @@
 -- Which slots a node's code uses of those before a number: those of its free variables, and what follows uses.
 use Rattle.std.proofs.Common.{◌≡◌, ℕ, suc, ◌≤◌, ◌<◌, ◌⊎◌, inl, inr, List, [], ◌∷◌, Option, Some, None, Bool, true, false, IsTrue, refl, sym, ap, ◌∙◌, subst, ⊎_elim, arith, if◌then◌else◌, ◌==◌, ◌||◌, nat_lt, true≢false}
-use Rattle.m5_terms.specs.TypeExpression.{TypeExpression}
+use Rattle.m5_terms.specs.TypeExpression.{TypeExpression, address}
 use Rattle.m5_terms.specs.Expression.{Expression, leaf, unary, binary, ternary}
 use Rattle.m5_terms.specs.declared.types.World.{World}
 use Rattle.m5_terms.specs.declared.types.Primitive.{Primitive}
@@ -12,8 +12,8 @@ use Rattle.m5_terms.specs.declared.form.BinaryForm.{BinaryForm}
 use Rattle.m5_terms.specs.declared.form.BinaryForm.TheVariants as binary_form
 use Rattle.m5_terms.specs.declared.form.TernaryForm.{TernaryForm}
 use Rattle.m5_terms.specs.declared.form.TernaryForm.TheVariants as ternary_form
-use Rattle.m5_cps.specs.Entries.{of, takes, only, Entry, by_value}
-use Rattle.m5_cps.specs.Blocks.{Code, straight, closure, test, Straight, Test, if_here, go, call, ask, send, done}
+use Rattle.m5_cps.specs.Entries.{of, takes, only, Entry, by_value, world_of}
+use Rattle.m5_cps.specs.Blocks.{Code, straight, closure, test, Straight, constant, Test, if_here, go, call, ask, send, done}
 use Rattle.m5_cps.specs.Blocks as block
 use Rattle.m5_cps.specs.Values.{put}
 use Rattle.m5_cps.specs.Captured.{uses, straight_uses}
@@ -23,8 +23,8 @@ use Rattle.m5_cps_convert.specs.Convert.{cps}
 use Rattle.m5_terms.specs.Substitution.{among, unary_binders, binary_binders, second_binders, third_binders}
 use Rattle.m5_typing.specs.Context.{Setting}
 use Rattle.m5_cps_convert.specs.Continuations.{Continuation, constant_code, arm_code, thread_end}
-use Rattle.m5_cps_convert.specs.Forms.{unary_rest, away_with_goal, away_with_value, get_value, get_variable, get_code, variable_of}
-use Rattle.m5_cps_convert.specs.Convert.{called_directly, binary_rest, binary_code, ternary_rest}
+use Rattle.m5_cps_convert.specs.Forms.{unary_rest, homeward, away_with_goal, away_with_value, get_value, get_variable, get_code, variable_of}
+use Rattle.m5_cps_convert.specs.Convert.{called_directly, away_to, binary_rest, get_parts, binary_code, ternary_rest}
 
 abbrev pub OccursLeaf : ℕ → LeafForm → Type 0
 OccursLeaf z (leaf_form.Var x) = z ≡ x
@@ -171,6 +171,9 @@ module _ (n : ℕ) (Ok : ℕ → Type 0) where
     pub start_safe : (e : Expression) (Γ : Scope) (p : ℕ) → n ≤ p → Uses e → Known e Γ → Safe (start_code (cps E e) Γ p)
     start_safe e Γ p i u k = u Γ (suc (suc p)) thread_end (omega (arith, i)) k end_safe
 
+    pub home_safe : (w : World) (k : ℕ) → Fine k → KSafe (homeward w k)
+    home_safe w k fk x q i f = safe_straight _ _ no_use (record { by = safe_three q k x (fresh q i) fk f })
+
     pub rest_safe : (f : UnaryForm) (κ : Continuation) → KSafe κ → KSafe (Then (λ x m. unary_rest f x m κ))
     rest_safe f κ h x q i g = safe_straight _ _ (λ l j u. is_fine x g l j u) (h q (suc q) (omega (arith, i)) (fresh q i))
 
@@ -240,10 +243,22 @@ module _ (n : ℕ) (Ok : ℕ → Type 0) where
     pub first_used : (f : BinaryForm) (T A : TypeExpression) (a b : Expression) (Γ : Scope) (p : ℕ) (κ : Continuation) → Uses a → Uses b → n ≤ p → Known (binary f a b) Γ → KSafe κ → Safe (cps E a Γ p (Then (λ x m. binary_rest f T A (variable_of b) (cps E b) Γ x m κ)))
     first_used f T A a b Γ p κ ua ub i k h = ua Γ p _ i (λ z l o e. k z l (inl o) e) (λ x m j fx. rest_of_two_safe f T A a b Γ x m κ ub j (λ z l q o e. k z l (inr (q, o)) e) fx h)
 
-    pub binary_used : (f : BinaryForm) (T A : TypeExpression) (a b : Expression) (Γ : Scope) (p : ℕ) (κ : Continuation) (d : Option Primitive) → Uses a → Uses b → n ≤ p → Known (binary f a b) Γ → ((z l : ℕ) → d ≡ None ⊎ (among z (binary_binders f) ≡ false)) → KSafe κ → Safe (binary_code d f T A (variable_of b) (cps E a) (cps E b) Γ p κ)
-    binary_used f T A a b Γ p κ (Some q) ua ub i k bare h = ub Γ p _ i (λ z l o e. k z l (inr (⊎_elim (λ w. absurd (cc)) (λ w. w) (bare z l), o)) e) (λ y m j fy. safe_reify _ κ m _ j h (λ l r jj fl. record { by = safe_two y l fy fl }))
-    binary_used binary_form.Get T A a b Γ p κ None ua ub i k bare h = safe_reify _ κ p _ i h (λ l m j fl. first_used binary_form.Get T A a b Γ m (Tail l) ua ub j k (tail_safe l fl))
-    binary_used f T A a b Γ p κ None ua ub i k bare h = first_used f T A a b Γ p κ ua ub i k h
+    -- a get's parts
+    pub goer_safe : (v w : World) (b : Expression) (Γ : Scope) (k p : ℕ) → Uses b → n ≤ suc p → Known b Γ → Fine p → Fine k → Safe (straight (constant (leaf_form.Addr v)) (closure (by_value (only v) (of (address w))) (cps E b (in_block (only v) Γ) (suc (suc (suc (suc p)))) (homeward w k)) (block.ends (send (suc p) (suc (suc p)) p))))
+    goer_safe v w b Γ k p ub i known fp fk = safe_straight _ _ no_use (safe_closure _ _ _ (ub (in_block (only v) Γ) (suc (suc (suc (suc p)))) _ (omega (arith, i)) known (home_safe w k fk))
+        (record { by = safe_three (suc p) (suc (suc p)) p (fresh (suc p) (omega (arith, i))) (fresh (suc (suc p)) (omega (arith, i))) fp }))
+
+    pub parts_safe : (o : Option World) (T A : TypeExpression) (a b : Expression) (Γ : Scope) (k p : ℕ) → Uses a → Uses b → n ≤ p → Known (binary binary_form.Get a b) Γ → Fine k → Safe (get_parts o T A (variable_of b) (cps E a) (cps E b) Γ k p)
+    parts_safe None T A a b Γ k p ua ub i known fk = first_used binary_form.Get T A a b Γ p (Tail k) ua ub i known (tail_safe k fk)
+    parts_safe (Some v) T A a b Γ k p ua ub i known fk =
+        safe_straight _ _ no_use (safe_test if_here p _ _ (fresh p i)
+        (goer_safe v _ b Γ k p ub (omega (arith, i)) (λ z l o e. known z l (inr (refl, o)) e) (fresh p i) fk)
+        (first_used binary_form.Get T A a b Γ (suc p) (Tail k) ua ub (omega (arith, i)) known (tail_safe k fk)))
+
+    pub binary_used : (f : BinaryForm) (T A : TypeExpression) (a b : Expression) (Γ : Scope) (p : ℕ) (κ : Continuation) (d : Option Primitive) (o : Option World) → Uses a → Uses b → n ≤ p → Known (binary f a b) Γ → ((z l : ℕ) → d ≡ None ⊎ (among z (binary_binders f) ≡ false)) → KSafe κ → Safe (binary_code d o f T A (variable_of b) (cps E a) (cps E b) Γ p κ)
+    binary_used f T A a b Γ p κ (Some q) o ua ub i k bare h = ub Γ p _ i (λ z l o e. k z l (inr (⊎_elim (λ w. absurd (cc)) (λ w. w) (bare z l), o)) e) (λ y m j fy. safe_reify _ κ m _ j h (λ l r jj fl. record { by = safe_two y l fy fl }))
+    binary_used binary_form.Get T A a b Γ p κ None o ua ub i k bare h = safe_reify _ κ p _ i h (λ l m j fl. parts_safe o T A a b Γ l m ua ub j k fl)
+    binary_used f T A a b Γ p κ None o ua ub i k bare h = first_used f T A a b Γ p κ ua ub i k h
 
     pub direct_bare : (f : BinaryForm) (a : Expression) (z : ℕ) → (called_directly f a ≡ None) ⊎ (among z (binary_binders f) ≡ false)
     direct_bare binary_form.Call a z = inr refl
@@ -265,5 +280,5 @@ module _ (n : ℕ) (Ok : ℕ → Type 0) where
     pub used : (e : Expression) → Uses e
     used (leaf f) Γ p κ i k h = leaf_used f Γ p κ i k h
     used (unary f a) Γ p κ i k h = unary_used f a (used a) Γ p κ i k h
-    used (binary f a b) Γ p κ i k h = binary_used f _ _ a b Γ p κ (called_directly f a) (used a) (used b) i k (λ z l. direct_bare f a z) h
+    used (binary f a b) Γ p κ i k h = binary_used f _ _ a b Γ p κ (called_directly f a) (away_to (world_of Γ.mode) a b) (used a) (used b) i k (λ z l. direct_bare f a z) h
     used (ternary f a b c) Γ p κ i k h = used a Γ p _ i (λ z l o e. k z l (inl o) e) (λ x m j fx. rest_of_three_safe f _ _ b c Γ x m κ (used b) (used c) j (λ z l q o e. k z l (inr (inl (q, o))) e) (λ z l q o e. k z l (inr (inr (q, o))) e) fx h)

@@ -17,14 +17,14 @@ use Rattle.m5_cps.specs.Deeds.{Ran, ends, makes, stops_full}
 use Rattle.m5_cps.specs.Captured.{Closure, Thread, Site}
 use Rattle.m5_cps.specs.Running.{entered_by, called_by, resolved, started, front, ran, last, site_next}
 use Rattle.m5_cps_convert.specs.Scopes.{Scope}
-use Rattle.m5_cps_convert.specs.Statics.{Static, STop, STail, SBack, SFirst, SSecond, SArgument}
+use Rattle.m5_cps_convert.specs.Statics.{Static, STop, STail, SBack, SHome, SFirst, SSecond, SArgument}
 use Rattle.m5_cps_convert.specs.Threads.{ReadsThread, ReadsThreads, ReadsState}
 use Rattle.m5_cps_convert.specs.Convert.{program_blocks}
 use Rattle.m5_cps_convert.specs.Threads.{ReadsSite}
 use Rattle.m5_cps_convert.proofs.Meets.{Tied, NextMet, Meets, Resumes, Evals}
 use Rattle.m5_cps_convert.proofs.Straight.{leaf_evals}
 use Rattle.m5_cps_convert.proofs.Stops.{stops_meet}
-use Rattle.m5_cps_convert.proofs.Ends.{top_resumes, tail_resumes, back_resumes}
+use Rattle.m5_cps_convert.proofs.Ends.{top_resumes, tail_resumes, back_resumes, home_resumes}
 use Rattle.m5_cps_convert.proofs.Made.{one_first, two_done}
 use Rattle.m5_cps_convert.proofs.OneForms.{fst_one, snd_one, text_one, div_one, new_one, load_one, hold_one, sham_one, inl_one, inr_one, fst_evals, snd_evals, text_evals, div_evals, new_evals, load_evals, hold_evals, sham_evals, inl_evals, inr_evals}
 use Rattle.m5_cps_convert.proofs.TwoForms.{pair_two, cons_two, store_two, operator_two, pair_first, cons_first, store_first, operator_first, pair_evals, cons_evals, store_evals, operator_evals}
@@ -133,6 +133,7 @@ module _ (P : Program) (u : World) (site : IsSiteWorld u) where
   resumes STop = top_resumes P u site
   resumes (STail k) = tail_resumes P u site k
   resumes (SBack a k) = back_resumes P u site a k
+  resumes (SHome w k) = home_resumes P u site w k
   resumes (SFirst Γ e K) = first_resumes e Γ K (resumes K)
   resumes (SSecond Γ e x K) = second_resumes e Γ x K (resumes K)
   resumes (SArgument Γ p b K) = argument_done P u site (asks_meet P u site) p b K (resumes K) Γ
@@ -146,7 +147,7 @@ module _ (P : Program) (u : World) (site : IsSiteWorld u) where
     thread_runs (enter k x) r t s (inl h) d = subst (λ y. Meets P u (started u t (entered_by k x)) (with_front s y)) (sym h.is) (kont_entered P u site good evals resumes k x h.result h.frames h.world t s h.continuation h.argument d)
     thread_runs (enter k x) r t s (inr (inl h)) d = subst (λ y. Meets P u (started u t (entered_by k x)) (with_front s y)) (sym h.is) (value_entered P u site good evals resumes k x h.result h.frames h.world t s h.continuation h.argument d)
     thread_runs (enter k x) r t s (inr (inr (inl h))) d = subst (λ y. Meets P u (started u t (entered_by k x)) (with_front s y)) (sym h.is) (goal_entered P u site good evals resumes k x h.node h.frames t s h.goal h.continuation d)
-    thread_runs (enter k x) r t s (inr (inr (inr h))) d = subst (λ y. Meets P u (started u t (entered_by k x)) (with_front s y)) (sym h.is) (start_entered P u site good evals resumes k x h.node t s h.start d)
+    thread_runs (enter k x) r t s (inr (inr (inr h))) d = subst (λ y. Meets P u (started u t (entered_by k x)) (with_front s y)) (sym h.is) (start_entered P u site good evals resumes k x h.node h.frames t s h.start d)
     thread_runs (value.call f x k) r t s (inl h) d = subst (λ y. Meets P u (started u t (called_by (program_blocks P) f x k)) (with_front s y)) (sym h.is) (function_entered P u site good evals x k h.result h.body h.frames t s h.argument h.continuation d f h.function h.put_in h.entered h.called)
     thread_runs (value.call f x k) r t s (inr h) d = handled P u site good evals (asks_meet P u site) f x k r t s h d
 

@@ -30,11 +30,11 @@ use Rattle.m5_typing.specs.Width.{term_width}
 use Rattle.m5_cps.specs.TypeParts.{first_of, second_of, content_of, place_of}
 use Rattle.m5_cps_convert.specs.Scopes.{VariableSlots}
 use Rattle.m5_cps_convert.specs.Continuations.{Continuation, arm_code, thread_end}
-use Rattle.m5_cps_convert.specs.Forms.{unary_rest, binary_end, back_code, get_value, get_variable, get_code, variable_of}
-use Rattle.m5_cps_convert.specs.Convert.{called_directly, binary_rest, binary_code, ternary_rest}
+use Rattle.m5_cps_convert.specs.Forms.{unary_rest, binary_end, homeward, back_code, get_value, get_variable, get_code, variable_of}
+use Rattle.m5_cps_convert.specs.Convert.{called_directly, away_to, binary_rest, get_parts, binary_code, ternary_rest}
 use Rattle.m5_cps_convert.proofs.Sums.{captured_by}
 use Rattle.m5_cps_convert.proofs.Occurrences.{among_left, among_right}
-use Rattle.m5_cps_convert.proofs.Uses.{Fine, Safe, KSafe, fresh, used, body_safe, goal_safe, start_safe, tail_safe, end_safe, slot_fine, safe_straight, safe_two, safe_three, safe_reify, is_fine, rest_of_two_safe, rest_of_three_safe, one_known, two_known, first_true, own_slot}
+use Rattle.m5_cps_convert.proofs.Uses.{Fine, Safe, KSafe, fresh, used, home_safe, body_safe, goal_safe, start_safe, tail_safe, end_safe, slot_fine, safe_straight, safe_two, safe_three, safe_reify, is_fine, rest_of_two_safe, rest_of_three_safe, one_known, two_known, first_true, own_slot}
 
 length_append : (xs ys : List ℕ) → length (xs ++ ys) ≡ length xs + length ys
 length_append [] ys = omega arith
@@ -275,12 +275,34 @@ module _ (P : Program) where
       (λ m x p g q Ok in_ fx. rest_of_two_safe m Ok E f T A a b Γ x p κ (used m Ok E b) q (λ z l w o e v. in_ l (variable_among Γ.slots vs ks r.covers z l e)) fx (k_safe κ n m (vs ++ ks) Ok r.uses g in_))
       (λ x m g. rest_of_two_narrow f T A b nb Γ m x κ vs ks i j (later Γ.slots n m κ vs ks i j g r) (omega (arith, h, le-max_right (term_width a) (1 + (length (binary_binders f) + term_width b)))))
 
-  binary_narrow : (d : Option Primitive) (f : BinaryForm) (T A : TypeExpression) (a b : Expression) → NarrowAt a → NarrowAt b → (Γ : Scope) (n : ℕ) (κ : Continuation) (vs ks : List ℕ) (i j : ℕ) → Around Γ.slots n κ vs ks i j → i + j + term_width (binary f a b) ≤ W → Narrow W (binary_code d f T A (variable_of b) (cps E a) (cps E b) Γ n κ) n
-  binary_narrow (Some p) f T A a b na nb Γ n κ vs ks i j r h = first_narrow b nb Γ n κ vs ks i j _ r (omega (arith, h, le-max_right (term_width a) (1 + (length (binary_binders f) + term_width b))))
+  -- a get's parts
+  home_narrow : (b : Expression) → NarrowAt b → (Γ : Scope) (n : ℕ) (w : World) (k : ℕ) (vs : List ℕ) (i j : ℕ) → Covers Γ.slots vs → length vs ≤ i → 1 ≤ j → suc (i + j) + term_width b ≤ W → (captured n (cps E b Γ (suc (suc n)) (homeward w k)) ≤ W) × Narrow W (cps E b Γ (suc (suc n)) (homeward w k)) (suc (suc n))
+  home_narrow b nb Γ n w k vs i j c a s h =
+      let in_ : IsTrue (among k (vs ++ (k ∷ []))) = waits_itself k vs [] in (
+        few (cps E b Γ (suc (suc n)) (homeward w k)) n vs (k ∷ []) i j a s (omega (arith, h)) (used n (λ l. IsTrue (among l (vs ++ (k ∷ [])))) E b Γ (suc (suc n)) (homeward w k) (omega arith) (λ z l o e q. variable_among Γ.slots vs (k ∷ []) c z l e) (home_safe n (λ l. IsTrue (among l (vs ++ (k ∷ [])))) E w k (λ q. in_))),
+        nb Γ (suc (suc n)) (homeward w k) vs (k ∷ []) i j (record {
+          covers = c;
+          variables = a;
+          others = s;
+          some = s;
+          uses = λ m x p g q. home_safe m (Here (vs ++ (k ∷ [])) x) E w k (λ r. inl in_) x p q (λ r. inr refl);
+          narrow = λ x m g. omega (arith, h, s);
+        }) (omega (arith, h)),
+      )
+
+  parts_narrow : (o : Option World) (T A : TypeExpression) (a b : Expression) → NarrowAt a → NarrowAt b → (Γ : Scope) (k n : ℕ) (vs ks : List ℕ) (i j : ℕ) → Around Γ.slots n (Tail k) vs ks i j → i + j + term_width (binary binary_form.Get a b) ≤ W → Narrow W (get_parts o T A (variable_of b) (cps E a) (cps E b) Γ k n) n
+  parts_narrow None T A a b na nb Γ k n vs ks i j r h = part_narrow binary_form.Get T A a b na nb Γ n (Tail k) vs ks i j r h
+  parts_narrow (Some v) T A a b na nb Γ k n vs ks i j r h =
+      let wide : suc (i + j) + term_width b ≤ W = omega (arith, h, le-max_right (term_width a) (1 + (length (binary_binders binary_form.Get) + term_width b))) in
+      let g = home_narrow b nb (in_block (only v) Γ) (suc (suc n)) _ k vs i j r.covers r.variables r.some wide in
+      (omega (arith, wide, r.some), (g.0, g.1, omega (arith, wide, r.some)), part_narrow binary_form.Get T A a b na nb Γ (suc n) (Tail k) vs ks i j (later Γ.slots n (suc n) (Tail k) vs ks i j (omega arith) r) h)
+
+  binary_narrow : (d : Option Primitive) (o : Option World) (f : BinaryForm) (T A : TypeExpression) (a b : Expression) → NarrowAt a → NarrowAt b → (Γ : Scope) (n : ℕ) (κ : Continuation) (vs ks : List ℕ) (i j : ℕ) → Around Γ.slots n κ vs ks i j → i + j + term_width (binary f a b) ≤ W → Narrow W (binary_code d o f T A (variable_of b) (cps E a) (cps E b) Γ n κ) n
+  binary_narrow (Some p) o f T A a b na nb Γ n κ vs ks i j r h = first_narrow b nb Γ n κ vs ks i j _ r (omega (arith, h, le-max_right (term_width a) (1 + (length (binary_binders f) + term_width b))))
       (λ m y q g gg Ok in_ fy. safe_reify m Ok _ κ q _ gg (k_safe κ n m (vs ++ ks) Ok r.uses g in_) (λ l o jj fl. record { by = safe_two m Ok y l fy fl }))
       (λ y m g. reified Γ.mode (of T) Γ.slots m κ vs ks i j _ (later Γ.slots n m κ vs ks i j g r) (omega (arith, h)) (λ k o ms gg q. omega (arith, h, r.some, le-max_right (term_width a) (1 + (length (binary_binders f) + term_width b)))))
-  binary_narrow None binary_form.Get T A a b na nb Γ n κ vs ks i j r h = reified Γ.mode (of T) Γ.slots n κ vs ks i j _ r (omega (arith, h)) (λ k m ms g q. part_narrow binary_form.Get T A a b na nb Γ m (Tail k) vs ms i j q h)
-  binary_narrow None f T A a b na nb Γ n κ vs ks i j r h = part_narrow f T A a b na nb Γ n κ vs ks i j r h
+  binary_narrow None o binary_form.Get T A a b na nb Γ n κ vs ks i j r h = reified Γ.mode (of T) Γ.slots n κ vs ks i j _ r (omega (arith, h)) (λ k m ms g q. parts_narrow o T A a b na nb Γ k m vs ms i j q h)
+  binary_narrow None o f T A a b na nb Γ n κ vs ks i j r h = part_narrow f T A a b na nb Γ n κ vs ks i j r h
 
   -- arms
   arm_narrow : (T : TypeExpression) (e : Expression) (ne : NarrowAt e) (Γ : Scope) (n k : ℕ) (vs ks : List ℕ) (i j : ℕ) → Around Γ.slots n (Tail k) vs ks i j → i + j + term_width e ≤ W → Narrow W (arm_code T (cps E e) Γ n k) n
@@ -317,5 +339,5 @@ module _ (P : Program) where
   pub narrow_at : (e : Expression) → NarrowAt e
   narrow_at (leaf f) = leaf_narrow f
   narrow_at (unary f a) = unary_narrow f a (narrow_at a)
-  narrow_at (binary f a b) = λ Γ n κ vs ks i j r h. binary_narrow (called_directly f a) f _ _ a b (narrow_at a) (narrow_at b) Γ n κ vs ks i j r h
+  narrow_at (binary f a b) = λ Γ n κ vs ks i j r h. binary_narrow (called_directly f a) (away_to (world_of Γ.mode) a b) f _ _ a b (narrow_at a) (narrow_at b) Γ n κ vs ks i j r h
   narrow_at (ternary f a b c) = ternary_narrow f a b c (narrow_at a) (narrow_at b) (narrow_at c)

@@ -1,5 +1,5 @@
 -- Steps that stand for code: straight forms and endings.
-use Rattle.std.proofs.Common.{◌≡◌, ℕ, suc, ◌+◌, ◌<◌, ◌≤◌, List, [], ◌∷◌, ◌++◌, length, Option, Some, slice_get, refl, sym, ap, ◌∙◌, subst, arith}
+use Rattle.std.proofs.Common.{◌≡◌, ℕ, suc, List, [], ◌∷◌, ◌++◌, length, Some, slice_get, sym, ap, ◌∙◌, subst, arith}
 use Rattle.m5_terms.specs.TypeExpression.{TypeExpression}
 use Rattle.m5_cps.specs.Blocks as blocks
 use Rattle.m5_cps.specs.Blocks.{Code}
@@ -8,14 +8,14 @@ use Rattle.m5_cps.specs.declared.step.Ending.{Ending}
 use Rattle.m5_cps.specs.declared.step.Ending.TheVariants as endings
 use Rattle.m5_cps.specs.declared.step.Step.{Step}
 use Rattle.m5_cps.specs.declared.step.Step.TheVariants as steps
-use Rattle.m5_cps.specs.Steps.{straight_of, ending_of, code_at}
+use Rattle.m5_cps.specs.Steps.{ending_of, code_at}
 use Rattle.m5_cps.proofs.Standing.{straight_stands, ending_stands}
-use Rattle.m5_cps_convert.specs.Continuations.{Continuation, Tail, Then, apply}
+use Rattle.m5_cps_convert.specs.Continuations.{Continuation, apply}
 use Rattle.m5_cps_convert.specs.declared.walk.Walk.{Walk}
 use Rattle.m5_cps_convert.specs.declared.walk.Goal.{Goal}
 use Rattle.m5_cps_convert.specs.declared.walk.Goal.TheVariants as goals
 use Rattle.m5_cps_convert.specs.declared.walk.Value.{Value}
-use Rattle.m5_cps_convert.specs.code.Writing.{Keeps, Grows, Completes, Follows, Goes, Writes, WritesValue, Means, Gives}
+use Rattle.m5_cps_convert.specs.code.Writing.{Grows, Completes, Writes, WritesValue, Means, Gives}
 use Rattle.m5_cps_convert.proofs.Growing.{keeps_trans, pushed_there, pushed_length, grows_self, grows_trans, grows_push}
 
 -- a program that has all steps has those of the first part, and those of the rest

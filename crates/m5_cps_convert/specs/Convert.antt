@@ -1,7 +1,8 @@
--- The blocks of a program: one-pass conversion to continuation-passing style, where each part's code is written once.
-use Rattle.std.specs.Prelude.{ℕ, suc, map, Option, Some, None}
+-- The blocks of a program: one-pass conversion to continuation-passing style, where a part's code is written once, or twice if short.
+use Rattle.std.specs.Prelude.{ℕ, suc, ◌&&◌, map, Bool, true, false, if◌then◌else◌, Option, Some, None}
 use Rattle.m5_terms.specs.Expression.{Expression, leaf, unary, binary, ternary}
-use Rattle.m5_terms.specs.TypeExpression.{TypeExpression}
+use Rattle.m5_terms.specs.TypeExpression.{TypeExpression, same_world}
+use Rattle.m5_terms.specs.declared.types.World.{World}
 use Rattle.m5_terms.specs.declared.types.World.TheVariants.{Home}
 use Rattle.m5_terms.specs.declared.types.Primitive.{Primitive}
 use Rattle.m5_terms.specs.declared.form.LeafForm.TheVariants as leaf_form
@@ -18,12 +19,32 @@ use Rattle.m5_cps.specs.TypeParts.{first_of, second_of, content_of, place_of}
 use Rattle.m5_cps.specs.TypeOf.{type_of}
 use Rattle.m5_cps_convert.specs.Scopes.{Scope, empty_scope, bind, fn_scope}
 use Rattle.m5_cps_convert.specs.Continuations.{Continuation, Tail, Then, Part, reify, taking, leaf_code, body_code, start_code, arm_code}
-use Rattle.m5_cps_convert.specs.Forms.{unary_code, binary_end, variable_of, get_code}
+use Rattle.m5_cps_convert.specs.Forms.{unary_code, binary_end, variable_of, get_away, get_code}
 
 -- the primitive that a call names, whose block then asks itself: no object is made for the function
 abbrev pub called_directly : BinaryForm → Expression → Option Primitive
 called_directly binary_form.Call (leaf (leaf_form.Extern p)) = Some p
 called_directly f a = None
+
+abbrev pub is_leaf : Expression → Bool
+is_leaf (leaf f) = true
+is_leaf e = false
+
+-- what has straight code of a few steps, so that it may stand twice
+abbrev pub is_plain : Expression → Bool
+is_plain (leaf f) = true
+is_plain (binary binary_form.Pair a b) = is_leaf a && is_leaf b
+is_plain e = false
+
+-- the call of a primitive by its name with such an argument
+abbrev pub asks_at_once : Expression → Bool
+asks_at_once (binary binary_form.Call (leaf (leaf_form.Extern p)) b) = is_plain b
+asks_at_once e = false
+
+-- where a get at w goes with its continuation: to a world that is written and another, where its body asks at once
+abbrev pub away_to : World → Expression → Expression → Option World
+away_to w (leaf (leaf_form.Addr v)) b = if same_world v w then None else if asks_at_once b then Some v else None
+away_to w a b = None
 
 -- when the argument is in slot y
 abbrev pub ask_code : Primitive → TypeExpression → Scope → ℕ → ℕ → Continuation → Code
@@ -39,13 +60,21 @@ binary_rest (binary_form.Leta y) T A z b Γ x n κ = straight (unheld x) (b (bin
 binary_rest (binary_form.Lets y) T A z b Γ x n κ = straight (unsham x) (b (bind y (valid (content_of A)) n Γ) (suc n) κ)
 binary_rest f T A z b Γ x n κ = b Γ n (Then (λ y m. binary_end f T Γ x y m κ))
 
+-- a get's parts, whose continuation is in slot k
+abbrev pub get_apart : TypeExpression → TypeExpression → Option ℕ → Part → Part → Scope → ℕ → ℕ → Code
+get_apart T A z a b Γ k n = a Γ n (Then (λ x m. binary_rest binary_form.Get T A z b Γ x m (Tail k)))
+
+-- and where it may go to a world that is written
+abbrev pub get_parts : Option World → TypeExpression → TypeExpression → Option ℕ → Part → Part → Scope → ℕ → ℕ → Code
+get_parts None T A z a b Γ k n = get_apart T A z a b Γ k n
+get_parts (Some v) T A z a b Γ k n = get_away (world_of Γ.mode) v b Γ k n (get_apart T A z a b Γ k (suc n))
+
 -- parts come from left to right; a get's continuation gets its slot before its address is evaluated, so that two steps of the
 -- source pay for its closures
-abbrev pub binary_code : Option Primitive → BinaryForm → TypeExpression → TypeExpression → Option ℕ → Part → Part → Part
-binary_code (Some p) f T A z a b Γ n κ = b Γ n (Then (λ y m. ask_code p T Γ y m κ))
-binary_code None binary_form.Get T A z a b Γ n κ =
-    reify (taking T Γ) κ n (λ k m. a Γ m (Then (λ x p. binary_rest binary_form.Get T A z b Γ x p (Tail k))))
-binary_code None f T A z a b Γ n κ = a Γ n (Then (λ x m. binary_rest f T A z b Γ x m κ))
+abbrev pub binary_code : Option Primitive → Option World → BinaryForm → TypeExpression → TypeExpression → Option ℕ → Part → Part → Part
+binary_code (Some p) o f T A z a b Γ n κ = b Γ n (Then (λ y m. ask_code p T Γ y m κ))
+binary_code None o binary_form.Get T A z a b Γ n κ = reify (taking T Γ) κ n (λ k m. get_parts o T A z a b Γ k m)
+binary_code None o f T A z a b Γ n κ = a Γ n (Then (λ x m. binary_rest f T A z b Γ x m κ))
 
 -- both arms go on with the continuation in one slot (a join point)
 abbrev pub ternary_rest : TernaryForm → TypeExpression → TypeExpression → Part → Part → Scope → ℕ → ℕ → Continuation → Code
@@ -69,7 +98,7 @@ abbrev pub cps : Setting → Expression → Part
 cps E (leaf f) Γ n κ = leaf_code f Γ n κ
 cps E (unary f a) Γ n κ = unary_code f (type_in E (unary f a) Γ) (cps E a) Γ n κ
 cps E (binary f a b) Γ n κ =
-    binary_code (called_directly f a) f (type_in E (binary f a b) Γ) (type_in E a Γ) (variable_of b) (cps E a) (cps E b) Γ n κ
+    binary_code (called_directly f a) (away_to (world_of Γ.mode) a b) f (type_in E (binary f a b) Γ) (type_in E a Γ) (variable_of b) (cps E a) (cps E b) Γ n κ
 cps E (ternary f a b c) Γ n κ =
     cps E a Γ n (Then (λ x m. ternary_rest f (type_in E (ternary f a b c) Γ) (type_in E a Γ) (cps E b) (cps E c) Γ x m κ))
 

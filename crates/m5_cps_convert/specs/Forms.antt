@@ -1,7 +1,7 @@
 -- The code of each form, from the code of its parts.
 use Rattle.std.specs.Prelude.{ℕ, suc, Option, Some, None}
 use Rattle.m5_terms.specs.Expression.{Expression, leaf}
-use Rattle.m5_terms.specs.TypeExpression.{TypeExpression, unit}
+use Rattle.m5_terms.specs.TypeExpression.{TypeExpression, unit, address}
 use Rattle.m5_terms.specs.declared.types.World.{World}
 use Rattle.m5_terms.specs.declared.form.LeafForm.TheVariants as leaf_form
 use Rattle.m5_terms.specs.declared.form.UnaryForm.{UnaryForm}
@@ -57,6 +57,18 @@ abbrev pub get_goal : TypeExpression → World → ℕ → Part → Scope → �
 get_goal T v x b Γ k n =
     closure (by_value (only v) (takes (of T))) (goal_code b (in_block (only v) Γ) n)
     (test if_here x (ends (go n k)) (away_with_goal T v x n k (suc n)))
+
+-- code that sends a value to the world w, for the continuation in slot k
+abbrev pub homeward : World → ℕ → Continuation
+homeward w k = Then (λ x n. straight (constant (leaf_form.Addr w)) (ends (send n k x)))
+
+-- at the world w, a block for the body that sends its value there goes to v; at another, which no typed site is, such code
+abbrev pub get_away : World → World → Part → Scope → ℕ → ℕ → Code → Code
+get_away w v b Γ k n c =
+    straight (constant (leaf_form.Addr w)) (test if_here n
+    (straight (constant (leaf_form.Addr v))
+    (closure (by_value (only v) (of (address w))) (b (in_block (only v) Γ) (suc (suc (suc (suc n)))) (homeward w k))
+    (ends (send (suc n) (suc (suc n)) n)))) c)
 
 -- the variable that a node is
 abbrev pub variable_of : Expression → Option ℕ

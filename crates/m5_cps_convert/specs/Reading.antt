@@ -16,7 +16,7 @@ use Rattle.m5_cps.specs.Blocks.{Code}
 use Rattle.m5_cps.specs.Values.{Wrap, left, right, held, sham, Join, pair, cons, atom, wrap, join, closed}
 use Rattle.m5_cps.specs.Captured.{over, Value}
 use Rattle.m5_cps_convert.specs.Scopes.{Scope, fn_scope, rec_scope}
-use Rattle.m5_cps_convert.specs.Continuations.{Part, apply, body_code, goal_code, start_code}
+use Rattle.m5_cps_convert.specs.Continuations.{apply, body_code, goal_code}
 use Rattle.m5_cps_convert.specs.Convert.{cps}
 use Rattle.m5_cps_convert.specs.Closing.{Values, hide, close}
 use Rattle.m5_cps_convert.specs.Proper.{Proper}
@@ -64,22 +64,35 @@ module _ (P : ProgramTerm) (n : ℕ) (c : Code) (S : Slots) where
     pub code : c ≡ apply (kont (setting P) static) (suc n) (suc (suc n))
     pub frames : Frames u S n static fs
 
-  -- a term, in a block that is written so
-  pub record TermReads (written : Part → Scope → ℕ → Code) (e : Expression) : Type 0 where
+  -- a term that waits for its frames
+  pub record GoalReads (e : Expression) : Type 0 where
     pub narrow : Narrow (widest P) c (suc (suc n))
     pub scope : Scope
     pub values : Values
     pub node : Expression
     pub proper : Proper node
     pub fits : Fits S n scope values
-    pub code : c ≡ written (cps (setting P) node) scope n
+    pub code : c ≡ goal_code (cps (setting P) node) scope n
+    pub is : e ≡ close values node
+
+  -- a term with its frames, at the site of u
+  pub record StartReads (u : World) (fs : List Frame) (e : Expression) : Type 0 where
+    pub narrow : Narrow (widest P) c (suc (suc n))
+    pub scope : Scope
+    pub values : Values
+    pub node : Expression
+    pub proper : Proper node
+    pub fits : Fits S n scope values
+    pub static : Static
+    pub code : c ≡ cps (setting P) node scope (suc (suc n)) (kont (setting P) static)
+    pub frames : Frames u S n static fs
     pub is : e ≡ close values node
 
   abbrev pub ClosedReads : Entry → Slot → Type 0
   ClosedReads (by_call m A B) (SVal v) = FnReads v ⊎ RecReads v
   ClosedReads (by_value m T) (SKont u fs) = KontReads u fs
-  ClosedReads (by_value m T) (SGoal e) = TermReads goal_code e
-  ClosedReads (by_value m T) (SStart e) = TermReads start_code e
+  ClosedReads (by_value m T) (SGoal e) = GoalReads e
+  ClosedReads (by_value m T) (SStart u fs e) = StartReads u fs e
   ClosedReads _ _ = ⊥
 
 abbrev pub wrapped : Wrap → Expression → Expression

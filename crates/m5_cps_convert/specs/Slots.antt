@@ -10,14 +10,14 @@ use Rattle.m5_meaning.specs.Parts.{parts, fill}
 use Rattle.m5_cps_convert.specs.Scopes.{Scope}
 use Rattle.m5_cps_convert.specs.Closing.{Values, close}
 use Rattle.m5_cps_convert.specs.Proper.{Proper, StandsAt}
-use Rattle.m5_cps_convert.specs.Statics.{Static, STop, STail, SBack, SFirst, SSecond, SArgument, IsSlotted, direct_call}
+use Rattle.m5_cps_convert.specs.Statics.{Static, STop, STail, SBack, SHome, SFirst, SSecond, SArgument, IsSlotted, direct_call}
 
--- a value; frames at a world; a term that waits for its frames; one that begins a thread
+-- a value; frames at a world; a term that waits for its frames; one that has them at a world
 pub data Slot : Type 0 where
   SVal : Expression → Slot
   SKont : World → List Frame → Slot
   SGoal : Expression → Slot
-  SStart : Expression → Slot
+  SStart : World → List Frame → Expression → Slot
 
 abbrev pub Slots : Type 1
 Slots = ℕ → Slot → Type 0
@@ -79,11 +79,18 @@ pub record SendsBack (h k : ℕ) (P : Slots) (n : ℕ) (fs : List Frame) : Type 
   pub continuation : Has P n k (SKont world below)
   pub is : fs ≡ frame.Return world ∷ below
 
+-- it goes back to the world w, where the continuation in slot k stands
+pub record SendsHome (w : World) (k : ℕ) (P : Slots) (n : ℕ) (fs : List Frame) : Type 0 where
+  pub below : List Frame
+  pub continuation : Has P n k (SKont w below)
+  pub is : fs ≡ frame.Return w ∷ below
+
 -- at the site of u, these are the frames
 abbrev pub Frames : World → Slots → ℕ → Static → List Frame → Type 0
 Frames u P n STop fs = fs ≡ []
 Frames u P n (STail k) fs = Has P n k (SKont u fs)
 Frames u P n (SBack h k) fs = SendsBack h k P n fs
+Frames u P n (SHome w k) fs = SendsHome w k P n fs
 Frames u P n (SFirst Γ e K) fs = WaitsFirst u Γ e (IsSlotted e K) P n fs (Frames u P n K)
 Frames u P n (SSecond Γ e x K) fs = WaitsSecond u e x P n fs (Frames u P n K)
 Frames u P n (SArgument Γ p b K) fs = WaitsArgument u p fs (Frames u P n K)

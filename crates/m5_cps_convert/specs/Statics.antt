@@ -1,6 +1,7 @@
 -- Frames that are known while a block's code is written: what a continuation of the conversion stands for.
 use Rattle.std.specs.Prelude.{ℕ}
 use Rattle.m5_terms.specs.Expression.{Expression, leaf, unary, binary, ternary}
+use Rattle.m5_terms.specs.declared.types.World.{World}
 use Rattle.m5_terms.specs.declared.types.Primitive.{Primitive}
 use Rattle.m5_terms.specs.declared.form.LeafForm.TheVariants as leaf_form
 use Rattle.m5_terms.specs.declared.form.BinaryForm.TheVariants as binary_form
@@ -8,7 +9,7 @@ use Rattle.m5_typing.specs.Context.{Setting}
 use Rattle.m5_cps.specs.Blocks.{Code, send, done, ends}
 use Rattle.m5_cps_convert.specs.Scopes.{Scope}
 use Rattle.m5_cps_convert.specs.Continuations.{Continuation, Tail, Then, thread_end}
-use Rattle.m5_cps_convert.specs.Forms.{unary_rest, binary_end, variable_of}
+use Rattle.m5_cps_convert.specs.Forms.{unary_rest, binary_end, homeward, variable_of}
 use Rattle.m5_cps_convert.specs.Convert.{cps, type_in, ask_code, binary_rest, ternary_rest}
 
 -- the code that goes on with the value of a node's first part, in slot x
@@ -34,6 +35,8 @@ pub data Static : Type 0 where
   STail : ℕ → Static
   -- it is sent to the address in the first slot, for the continuation in the second
   SBack : ℕ → ℕ → Static
+  -- it is sent to that world, for the continuation in the slot
+  SHome : World → ℕ → Static
   -- a node of the scope waits for its first part
   SFirst : Scope → Expression → Static → Static
   -- or for its second, with the slot of the first
@@ -45,6 +48,7 @@ abbrev pub kont : Setting → Static → Continuation
 kont E STop = thread_end
 kont E (STail k) = Tail k
 kont E (SBack h k) = Then (λ x n. ends (send h k x))
+kont E (SHome w k) = homeward w k
 kont E (SFirst Γ e K) = Then (λ x n. first_rest E e Γ x n (kont E K))
 kont E (SSecond Γ e x K) = Then (λ y n. second_rest E e Γ x y n (kont E K))
 kont E (SArgument Γ p b K) = Then (λ y n. ask_code p (type_in E (direct_call p b) Γ) Γ y n (kont E K))

@@ -51,9 +51,10 @@ module _ (P : ProgramTerm) (u : World) where
 
   -- a thread begins
   pub record Starting (k : Value) (th : meaning.Thread) : Type 0 where
+    pub frames : List Frame
     pub node : Expression
-    pub start : Reads P k (SStart node)
-    pub is : th ≡ thread_of [] (Eval u node)
+    pub start : Reads P k (SStart u frames node)
+    pub is : th ≡ thread_of frames (Eval u node)
 
   -- a function is called, and the source has put the argument into its body
   pub record Calling (f x k : Value) (th : meaning.Thread) : Type 0 where

@@ -13,6 +13,7 @@ pub mod Functions
 pub mod Ways
 pub mod Choices
 pub mod Gets
+pub mod Aways
 pub mod Pairs
 pub mod Parts
 pub mod Programs

@@ -2,6 +2,7 @@
 #![tactic(auto)]
 
 mod around;
+mod aways;
 mod choices;
 mod closing;
 mod functions;

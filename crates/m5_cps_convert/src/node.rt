@@ -3,26 +3,25 @@
 ghost use Rattle.std.specs.Prelude.{◌≡◌, Some, None, IfOk, IsTrue};
 ghost use Rattle.m5_terms.specs.Expression.{unary, binary, ternary};
 ghost use Rattle.m5_terms.specs.Opened.{viewed_unary};
-ghost use Rattle.m5_terms.specs.declared.form.BinaryForm.TheVariants.{Call, Get, Pair};
+ghost use Rattle.m5_terms.specs.declared.form.BinaryForm.TheVariants.{Call, Pair};
 ghost use Rattle.m5_terms.specs.declared.form.UnaryForm.TheVariants as unary_form;
 ghost use Rattle.m5_typing.specs.Program.{in_text};
 ghost use Rattle.m5_cps_convert.specs.Convert.{called_directly};
 ghost use Rattle.m5_cps_convert.specs.code.Emitting.{Emits, EmitsWithin};
 ghost use Rattle.m5_cps_convert.specs.code.Functions.{IsFunction};
 ghost use Rattle.m5_cps_convert.specs.code.Operations.{IsOperation};
-ghost use Rattle.m5_cps_convert.specs.code.Parts.{EmitsBody, EmitsArm};
+ghost use Rattle.m5_cps_convert.specs.code.Parts.{EmitsArm};
 ghost use Rattle.m5_cps_convert.specs.code.Ways.{IsLet, IsTwo, extern_of};
 
 use crate::around::{OPEN_ARMS, around_part, awaiting, in_arm, in_block, taking};
 use crate::choices::{begin_test, end_test, in_second, in_third, test_of, whole_or_own};
 use crate::closing::{begin_closure, close_behind, hold, resume};
 use crate::functions::{head_of, signature_of};
-use crate::gets::{Sent, get_variable, go_or_send, variable_of};
+use crate::gets::emit_get;
 use crate::leaves::emit_leaf;
 use crate::lets::{Inside, begin_let};
 use crate::operations::{add_quotient, finish_operation};
 use crate::pairs::{pair_up, wait};
-use crate::part_types::place_of;
 use crate::two_parts::{ask, finish_two};
 use crate::walk::{Around, Goal, Known, Value, Walk, next_number};
 use crate::ways::{Way, way_of};
@@ -33,7 +32,7 @@ use m5_terms::form::{BinaryForm, TernaryForm};
 use m5_terms::node::Node;
 use m5_terms::opened::{Opened, UnaryView};
 use m5_terms::table::Binding;
-use m5_terms::types::{Prim, World};
+use m5_terms::types::Prim;
 use std::alloc::{AllocError, Global};
 
 /// A node inside the binders of a form.
@@ -207,58 +206,6 @@ fn emit_two(
     let value = emit(alloc, walk, around, filled, Goal::Then, first)?;
     let other = emit(alloc, walk, around, value.filled, Goal::Then, second)?;
     finish_two(walk, around, form, value, other, goal)
-}
-
-/// The body of a get at a world, whose address and continuation are in slots: its type's number.
-#[cycle(emit)]
-fn emit_body(
-    alloc: Global,
-    walk: &mut Walk,
-    around: Around,
-    world: World,
-    address: Value,
-    continuation: u32,
-    node: &Node,
-) -> Result<usize, AllocError>
-    requires { IsTrue (in_text node.now) }
-    ensures { IfOk result (EmitsBody walk.old walk.new around world address continuation node.now) }
-{
-    match variable_of(node) {
-        Some(variable) => get_variable(walk, around, world, variable, address, continuation),
-        None => {
-            let waiting = next_number(address.filled)?;
-            let body = next_number(waiting)?;
-            let pending = begin_closure(walk)?;
-            let inside = in_block(around, Mode::Only(world));
-            let value = emit(alloc, walk, inside, body, Goal::Tail(waiting), node)?;
-            close_behind(walk, pending, awaiting(Mode::Only(world), value.ty));
-            let sent = Sent::Goal(address.filled);
-            let ty = value.ty;
-            go_or_send(walk, world, ty, sent, address.slot, continuation, waiting)?;
-            Ok(ty)
-        }
-    }
-}
-
-/// A get, whose continuation gets its slot before its address is evaluated.
-#[cycle(emit)]
-fn emit_get(
-    alloc: Global,
-    walk: &mut Walk,
-    around: Around,
-    filled: u32,
-    goal: Goal,
-    first: &Node,
-    second: &Node,
-) -> Result<Value, AllocError>
-    requires { IsTrue (in_text first.now) × IsTrue (in_text second.now) }
-    ensures { IfOk result (Emits walk.old walk.new around filled goal (binary Get first.now second.now)) }
-{
-    let held = hold(walk, goal, filled)?;
-    let address = emit(alloc, walk, around, held.filled, Goal::Then, first)?;
-    let world = place_of(&walk.types, address.ty);
-    let ty = emit_body(alloc, walk, around, world, address, held.slot, second)?;
-    resume(walk, held, goal, taking(around, ty), ty)
 }
 
 /// An arm of a choice, for the continuation in a slot: its type's number. Where many arms are open,

@@ -1,5 +1,5 @@
 -- Closures whose steps are written before their places are known, and continuations that are made here.
-use Rattle.std.specs.Prelude.{◌≡◌, ◌<◌, ◌++◌, ℕ, suc, List, [], ◌∷◌, length, Option, Some, None, slice_set}
+use Rattle.std.specs.Prelude.{◌≡◌, ◌<◌, ◌++◌, ℕ, suc, [], ◌∷◌, length, Option, Some, None, slice_set}
 use Rattle.m5_cps.specs.declared.entry.Entry.{Entry}
 use Rattle.m5_cps.specs.declared.step.Step.{Step}
 use Rattle.m5_cps.specs.declared.step.Step.TheVariants as steps

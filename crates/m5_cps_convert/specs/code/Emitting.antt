@@ -1,5 +1,5 @@
 -- What emitting a node makes sure of: its type, and its code for whatever becomes of its value.
-use Rattle.std.specs.Prelude.{◌≡◌, ℕ, Option, length}
+use Rattle.std.specs.Prelude.{◌≡◌, ℕ, Option}
 use Rattle.m5_terms.specs.Expression.{Expression}
 use Rattle.m5_terms.specs.Table.{entries, entered}
 use Rattle.m5_terms.specs.declared.table.Binding.{Binding}

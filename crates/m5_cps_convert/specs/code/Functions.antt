@@ -6,7 +6,7 @@ use Rattle.m5_terms.specs.declared.types.World.{World}
 use Rattle.m5_terms.specs.declared.form.UnaryForm.{UnaryForm}
 use Rattle.m5_terms.specs.declared.form.UnaryForm.TheVariants as unary_form
 use Rattle.m5_typing.specs.Context.{Setting}
-use Rattle.m5_cps.specs.Entries.{only, world_of}
+use Rattle.m5_cps.specs.Entries.{world_of}
 use Rattle.m5_cps.specs.Steps.{mode_of}
 use Rattle.m5_cps.specs.declared.entry.Mode.TheVariants.{Only}
 use Rattle.m5_cps_convert.specs.Scopes.{Scope, fn_scope, rec_scope}

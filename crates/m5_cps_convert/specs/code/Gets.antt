@@ -1,5 +1,5 @@
 -- What the helpers of gets make sure of.
-use Rattle.std.specs.Prelude.{◌≡◌, ℕ, suc, List, Option, Some, None}
+use Rattle.std.specs.Prelude.{ℕ}
 use Rattle.m5_terms.specs.TypeExpression.{TypeExpression}
 use Rattle.m5_terms.specs.Table.{entries}
 use Rattle.m5_terms.specs.declared.types.World.{World}

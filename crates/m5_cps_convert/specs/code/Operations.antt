@@ -4,7 +4,6 @@ use Rattle.m5_terms.specs.TypeExpression.{TypeExpression}
 use Rattle.m5_terms.specs.declared.types.World.{World}
 use Rattle.m5_terms.specs.declared.form.UnaryForm.{UnaryForm}
 use Rattle.m5_terms.specs.declared.form.UnaryForm.TheVariants as unary_form
-use Rattle.m5_cps.specs.Blocks as blocks
 use Rattle.m5_cps.specs.Entries.{world_of}
 use Rattle.m5_cps.specs.TypeParts.{unary_whole}
 use Rattle.m5_cps.specs.TypesByNumber.{row_type}

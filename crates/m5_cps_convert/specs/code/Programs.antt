@@ -1,5 +1,5 @@
 -- What writing the blocks of a program makes sure of.
-use Rattle.std.specs.Prelude.{◌≡◌, ℕ, List, [], ◌∷◌, take, Option, Some, None, slice_get}
+use Rattle.std.specs.Prelude.{◌≡◌, ℕ, List, [], ◌∷◌, take, Some, None, slice_get}
 use Rattle.m5_terms.specs.Expression.{Expression}
 use Rattle.m5_terms.specs.TypeExpression.{TypeExpression, function}
 use Rattle.m5_terms.specs.Table.{entries}

@@ -1,5 +1,5 @@
 -- What is written from one state of the walk to another: whatever goes on from there, the steps stand for code.
-use Rattle.std.specs.Prelude.{◌≡◌, ◌≤◌, ℕ, suc, List, length, Option, Some, slice_get}
+use Rattle.std.specs.Prelude.{◌≡◌, ◌≤◌, ℕ, suc, List, length, Some, slice_get}
 use Rattle.m5_terms.specs.TypeExpression.{TypeExpression}
 use Rattle.m5_terms.specs.Table.{entries}
 use Rattle.m5_cps.specs.Blocks as blocks

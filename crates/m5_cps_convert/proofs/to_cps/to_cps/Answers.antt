@@ -1,7 +1,7 @@
 use Rattle.std.proofs.Common.{◌∙◌, ap, sym, subst}
 use Rattle.m5_cps.specs.Program.{IsProgram}
-use Rattle.m5_cps.specs.Table.{Table, blocks_of}
-use Rattle.m5_cps_convert.proofs.Assembled.{Whole, whole_of}
+use Rattle.m5_cps.specs.Table.{blocks_of}
+use Rattle.m5_cps_convert.proofs.Assembled.{whole_of}
 use Rattle.m5_cps_convert.specs.Laws.{GoesOnAs, IsFewFor}
 use Rattle.m5_cps_convert.proofs.Fitting.{blocks_fit, blocks_few}
 use Rattle.m5_cps_convert.proofs.Matched.{plays_fully}

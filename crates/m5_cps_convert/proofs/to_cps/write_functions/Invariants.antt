@@ -1,4 +1,3 @@
-use Rattle.std.proofs.Common.{take}
 use Rattle.m5_cps_convert.specs.code.Programs.{FunctionsSoFar}
 use Rattle.m5_cps_convert.proofs.to_cps.write_functions.Given as goal
 
