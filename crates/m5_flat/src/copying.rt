@@ -37,7 +37,8 @@ fn straight(alloc: Global, form: &Straight) -> Result<Straight, AllocError>
     }
 }
 
-fn step(alloc: Global, step: &Step) -> Result<Step, AllocError>
+/// A step again.
+pub fn step(alloc: Global, step: &Step) -> Result<Step, AllocError>
     ensures { IfOk result (λ s. s ≡ step.now) }
 {
     match step {
@@ -56,7 +57,8 @@ fn step(alloc: Global, step: &Step) -> Result<Step, AllocError>
     }
 }
 
-fn label(alloc: Global, label: &Label) -> Result<Label, AllocError>
+/// A label again.
+pub fn label(alloc: Global, label: &Label) -> Result<Label, AllocError>
     ensures { IfOk result (λ l. l ≡ label.now) }
 {
     Ok(Label {

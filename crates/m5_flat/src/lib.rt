@@ -1,7 +1,7 @@
 //! Programs of blocks under labels, closed over their environments, and what a site of them does.
 #![tactic(auto)]
 
-mod copying;
+pub mod copying;
 pub mod label;
 pub mod program;
 pub mod step;

@@ -78,6 +78,13 @@ impl Table {
         self.held_steps.as_slice().len()
     }
 
+    /// The steps, by their places. Code does not begin at each.
+    pub fn steps(&self) -> &[Step]
+        ensures { result.now ≡ self.now.steps }
+    {
+        self.held_steps.as_slice()
+    }
+
     /// The step at a place where code begins.
     pub fn step(&self, place: usize) -> &Step
         requires { HasCode self.now place }

@@ -19,7 +19,7 @@ placed (slot m U ∷ es) zero T e = (m, (let q : U ≡ T = cc in ap (λ X. Some 
 placed (slot m U ∷ es) (suc j) T e = placed es j T e
 
 module _ (B : Blocks) (d : IsProgram B) (L : CellTypes) (u : World) (i : ℕ) (ρ : ℕ → Value) where
-  has_environment : (b : Block) (es : List Slot) → d.environments i ≡ Some es → slice_get B.table i ≡ Some b → SlotsFit (λ l. Has B d L u (ρ l)) u (slice_get es) → HasEnvironment B d L u ρ b.environment
+  pub has_environment : (b : Block) (es : List Slot) → d.environments i ≡ Some es → slice_get B.table i ≡ Some b → SlotsFit (λ l. Has B d L u (ρ l)) u (slice_get es) → HasEnvironment B d L u ρ b.environment
   has_environment b es o g h j T e =
       let q = placed es j T (ap (λ ts. slice_get ts j) (d.blocks i es b o g).types ∙ e) in
       (q.0, h j q.0 T q.1)

@@ -14,7 +14,7 @@ use Rattle.m5_flat.specs.Machine.{flat_machine, flat_moments}
 use Rattle.m5_flat.specs.Moments.{IsMet}
 use Rattle.m5_hoist.specs.Hoisting.{itself, met, HoistedGoOn}
 
-asks_itself : (q : AskOf Item) → AskReads (λ v i j. i ≡ j) q q
+pub asks_itself : (q : AskOf Item) → AskReads (λ v i j. i ≡ j) q q
 asks_itself (query.Send v i) = (i, refl, refl)
 asks_itself (query.Say t) = refl
 asks_itself (query.Set e t) = refl
@@ -27,7 +27,7 @@ asks_itself (query.Show t) = refl
 asks_itself query.Take = refl
 asks_itself (query.Stop c) = refl
 
-answered_itself : (b c : AnswerOf Item) → AnswerReads (λ i j. i ≡ j) b c → c ≡ b
+pub answered_itself : (b c : AnswerOf Item) → AnswerReads (λ i j. i ≡ j) b c → c ≡ b
 answered_itself (answer.Message v i) c r = r.2 ∙ ap (answer.Message v) (sym r.1)
 answered_itself answer.Done c r = r
 answered_itself (answer.Found t) c r = r
