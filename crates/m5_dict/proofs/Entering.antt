@@ -13,10 +13,10 @@ use Rattle.m5_dictionary.specs.Dictionaries.{Entrance, IsEntrance, IsDictionarie
 use Rattle.m5_dict.specs.Lines.{Grows}
 use Rattle.m5_dict.specs.Standing.{Sent, Stands, slot_target, entry_target}
 use Rattle.m5_dict.specs.Dictionaries.{IsEntranceOf}
-use Rattle.m5_dict.proofs.Growing.{stay, stay_all, within}
+use Rattle.m5_dict.proofs.Growing.{still, stay, stay_all, within}
 
 entered : (L M : List TypeLine) (e : Entrance) (b : Block) → Grows L M → IsEntranceOf L e b → IsEntranceOf M e b
-entered L M e b g h = record { world = h.world; argument = stay (entry_target b.entry) L M e.argument g h.argument; environment = stay_all L M e.environment (map slot_target b.environment) g h.environment }
+entered L M e b g h = record { world = h.world; argument = stay (entry_target b.entry) L M e.argument g h.argument; closure = (h.closure.0, still L M h.closure.0 _ g h.closure.1); environment = stay_all L M e.environment (map slot_target b.environment) g h.environment }
 
 entered_more : {A : Type 0} (f : A → Block) (L M : List TypeLine) (es : List Entrance) (e : Entrance) (xs : List A) (n : ℕ) (d : A) → AllZip (IsEntranceOf L) es (map f (take n xs)) → Grows L M → n < length xs → IsEntranceOf M e (f (get_or xs n d)) → AllZip (IsEntranceOf M) (es ++ e ∷ []) (map f (take (suc n) xs))
 entered_more f L M es e [] n d z g lt s = absurd (omega arith)

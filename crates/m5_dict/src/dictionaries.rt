@@ -10,6 +10,7 @@ ghost use Rattle.m5_dict.specs.Dictionaries.{IsEntranceOf, AreDictionariesOf};
 
 use crate::memory::Memory;
 use crate::number::{entry_id, environment_ids, type_ids};
+use crate::target::Target;
 use crate::targets::Targets;
 use m5_cps::entry::Entry;
 use m5_cps::types::Types;
@@ -22,7 +23,7 @@ use m5_terms::types::World;
 use std::alloc::Global;
 
 /// The dictionaries of a flat program: of each label its world, its argument's type and those of its
-/// environment. A line of the type table stands once.
+/// environment. The type table has a line for the closures of each label, and each line once.
 pub fn dictionaries(alloc: Global, flat: &Flat) -> Result<Dicts, Memory>
     ensures { IfOk result (λ d. AreDictionariesOf (blocks_of flat.now) d) }
 {
@@ -36,7 +37,7 @@ pub fn dictionaries(alloc: Global, flat: &Flat) -> Result<Dicts, Memory>
     Ok(Dicts::make(targets.lines(alloc)?, labels))
 }
 
-/// A label's line.
+/// A label's line. The type table has the line of its closures too.
 fn entrance(
     alloc: Global,
     table: &Table,
@@ -49,6 +50,7 @@ fn entrance(
     ensures grows { OnOk result (Grows targets.old targets.new) }
 {
     let argument = entry_id(table.types(), label.entry, known, targets)?;
+    targets.number(Target::Fun(argument))?;
     let environment = environment_ids(
         alloc,
         table.types(),
