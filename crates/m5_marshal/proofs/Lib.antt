@@ -15,3 +15,7 @@ pub mod Fields
 pub mod PlaceIn
 pub mod Written
 pub mod Sendings
+pub mod Fitting
+pub mod Testing
+pub mod Starting
+pub mod Behind

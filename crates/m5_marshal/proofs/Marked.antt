@@ -78,7 +78,7 @@ rising_front (p ∷ a) b h = (all_left (λ q. rank p < rank q) a b h.0, rising_f
 
 -- ---- what is marked
 
-wanted_here : (w : List Reached) (at k : ℕ) (q : Reached) → has (wanted_ids w at k) q ≡ true → (q.at ≡ at) × (q.id < k) × (has w q ≡ true)
+pub wanted_here : (w : List Reached) (at k : ℕ) (q : Reached) → has (wanted_ids w at k) q ≡ true → (q.at ≡ at) × (q.id < k) × (has w q ≡ true)
 wanted_here w at zero q e = absurd cc
 wanted_here w at (suc k) q e = elim (has_cases (wanted_ids w at k) _ q e) [
   | inl h ↦ (let r = wanted_here w at k q h in (r.0, omega (arith, r.1), r.2))

@@ -1,5 +1,5 @@
 -- The label of a closure is found by passing the contents before its own.
-use Rattle.std.proofs.Common.{◌≡◌, ℕ, zero, suc, ◌+◌, ◌-◌, ◌<◌, ◌≤◌, Bool, true, false, cond, eqb, List, [], ◌∷◌, ◌++◌, length, take, Option, Some, None, Ok, Err, slice_get, refl, sym, ap, subst, ◌∙◌, arith, pos}
+use Rattle.std.proofs.Common.{◌≡◌, ℕ, zero, suc, ◌+◌, ◌-◌, ◌<◌, Bool, true, false, cond, eqb, List, [], ◌∷◌, ◌++◌, length, take, Option, Some, None, Ok, Err, slice_get, refl, sym, ap, subst, ◌∙◌, arith, pos}
 use Rattle.std.proofs.lemmas.Bool.{eqb-true}
 use Rattle.m5_region.specs.declared.value.Value.{Value}
 use Rattle.m5_region.specs.declared.value.Value.TheVariants as values
@@ -12,11 +12,10 @@ use Rattle.m5_dictionary.specs.Dictionaries.{Dictionaries, Entrance}
 use Rattle.m5_message.specs.Numbers.{Read, ◌>>=◌, field, small_number, older}
 use Rattle.m5_message.specs.Reading.{values_at, value_at, Parts, entered, with_rest, label_at, opening_of, opening_at, closing_at, content_at, contents_at}
 use Rattle.m5_message.specs.Message.{label_in, label_stands, argument_of, line_at, rooted, root_of, with_argument, as_root, ended}
-use Rattle.m5_message.specs.Packing.{target}
 use Rattle.m5_marshal.specs.code.Adding.{rest_of, span, Kinds}
 use Rattle.m5_marshal.specs.code.Tail.{tail_at}
 use Rattle.m5_marshal.proofs.Passing.{rest_object}
-use Rattle.m5_marshal.proofs.Filling.{older_below, value_placed}
+use Rattle.m5_marshal.proofs.Filling.{older_below, Placed, value_placed}
 use Rattle.m5_marshal.proofs.Gathered.{contents_ok, contents_none}
 
 some_is : {A : Type 0} (x y : A) → Some x ≡ Some y → x ≡ y
@@ -191,32 +190,37 @@ pub tail_value : (d : Dictionaries) (w : World) (f : Format) (n : ℕ) (ids : Li
 unfolding tail_at
 tail_value d w f n ids os bytes j i rest v end e h = rw (e, h) refl
 
--- the root is one of the objects, and so is what the argument refers to
-pub record TailFacts (d : Dictionaries) (ids : List ℕ) (n : ℕ) (x : ℕ × Value) : Type 0 where
-  pub root : x.0 < n
-  pub argument : (base : ℕ) (front : List Object) → Kinds d ids base n front → base + target x.1 ≤ length front
+rooted_stands : (b : Bool) (m : Option ℕ) (i : ℕ) → rooted b m ≡ Some i → b ≡ true
+rooted_stands true m i e = refl
+rooted_stands false m i e = absurd (let none : None ≡ Some i = e in cc)
 
-pub tail_facts : (d : Dictionaries) (w : World) (f : Format) (n : ℕ) (ids : List ℕ) (os : List Object) (bytes : List ℕ) (x : ℕ × Value) → tail_at d w f n ids os bytes ≡ Ok x → TailFacts d ids n x
+-- the root is one of the objects, of a label that stands, and the argument refers to one of them
+pub record TailFacts (d : Dictionaries) (w : World) (ids : List ℕ) (os : List Object) (n : ℕ) (x : ℕ × Value) : Type 0 where
+  pub root : x.0 < n
+  pub argument : (base : ℕ) (front : List Object) → Kinds d ids base n front → Placed base front x.1
+  pub stands : label_stands d w (label_in (slice_get os x.0)) ≡ true
+
+pub tail_facts : (d : Dictionaries) (w : World) (f : Format) (n : ℕ) (ids : List ℕ) (os : List Object) (bytes : List ℕ) (x : ℕ × Value) → tail_at d w f n ids os bytes ≡ Ok x → TailFacts d w ids os n x
 unfolding tail_at
 tail_facts d w f n ids os bytes x e = by_root (older f n bytes) refl e
   where
-    by_end : (j i : ℕ) (rest : List ℕ) → j < n → (v : Value) (end : List ℕ) → value_at d f ids n i rest ≡ Ok (v, end) → ended (j, v) end ≡ Ok x → TailFacts d ids n x
-    by_end j i rest lt v [] h k =
-        subst (TailFacts d ids n) (let same : (j, v) ≡ x = cc in same)
-        (record { root = lt; argument = λ base front kinds. (value_placed d f ids n i base front rest (v, []) kinds h).within })
-    by_end j i rest lt v (b ∷ end) h k = absurd (let bad : Err (length (b ∷ end)) ≡ Ok x = k in cc)
+    by_end : (j i : ℕ) (rest : List ℕ) → j < n → label_stands d w (label_in (slice_get os j)) ≡ true → (v : Value) (end : List ℕ) → value_at d f ids n i rest ≡ Ok (v, end) → ended (j, v) end ≡ Ok x → TailFacts d w ids os n x
+    by_end j i rest lt st v [] h k =
+        subst (TailFacts d w ids os n) (let same : (j, v) ≡ x = cc in same)
+        (record { root = lt; argument = λ base front kinds. value_placed d f ids n i base front rest (v, []) kinds h; stands = st })
+    by_end j i rest lt st v (b ∷ end) h k = absurd (let bad : Err (length (b ∷ end)) ≡ Ok x = k in cc)
 
-    by_value : (j i : ℕ) (rest : List ℕ) → j < n → (r : Read Value) → value_at d f ids n i rest ≡ r → (r >>= λ v. ended (j, v.0) v.1) ≡ Ok x → TailFacts d ids n x
-    by_value j i rest lt (Ok v) h k = by_end j i rest lt v.0 v.1 h k
-    by_value j i rest lt (Err m) h k = absurd (let bad : Err m ≡ Ok x = k in cc)
+    by_value : (j i : ℕ) (rest : List ℕ) → j < n → label_stands d w (label_in (slice_get os j)) ≡ true → (r : Read Value) → value_at d f ids n i rest ≡ r → (r >>= λ v. ended (j, v.0) v.1) ≡ Ok x → TailFacts d w ids os n x
+    by_value j i rest lt st (Ok v) h k = by_end j i rest lt st v.0 v.1 h k
+    by_value j i rest lt st (Err m) h k = absurd (let bad : Err m ≡ Ok x = k in cc)
 
-    by_argument : (j : ℕ) (rest : List ℕ) → j < n → (m : Option ℕ) → (field bytes (with_argument j rest m) >>= λ root. value_at d f ids n root.0.1 root.1 >>= λ v. ended (root.0.0, v.0) v.1) ≡ Ok x → TailFacts d ids n x
-    by_argument j rest lt None k = absurd (let bad : Err (length bytes) ≡ Ok x = k in cc)
-    by_argument j rest lt (Some i) k = by_value j i rest lt (value_at d f ids n i rest) refl k
+    by_argument : (j : ℕ) (rest : List ℕ) → j < n → (m : Option ℕ) → root_of d w ids os j ≡ m → (field bytes (with_argument j rest m) >>= λ root. value_at d f ids n root.0.1 root.1 >>= λ v. ended (root.0.0, v.0) v.1) ≡ Ok x → TailFacts d w ids os n x
+    by_argument j rest lt None is k = absurd (let bad : Err (length bytes) ≡ Ok x = k in cc)
+    by_argument j rest lt (Some i) is k = by_value j i rest lt (rooted_stands (label_stands d w (label_in (slice_get os j))) (argument_of (line_at d (slice_get ids j))) i is) (value_at d f ids n i rest) refl k
 
-    by_root : (m : Option (ℕ × List ℕ)) → older f n bytes ≡ m → (field bytes (as_root d w ids os m) >>= λ root. value_at d f ids n root.0.1 root.1 >>= λ v. ended (root.0.0, v.0) v.1) ≡ Ok x → TailFacts d ids n x
+    by_root : (m : Option (ℕ × List ℕ)) → older f n bytes ≡ m → (field bytes (as_root d w ids os m) >>= λ root. value_at d f ids n root.0.1 root.1 >>= λ v. ended (root.0.0, v.0) v.1) ≡ Ok x → TailFacts d w ids os n x
     by_root None h k = absurd (let bad : Err (length bytes) ≡ Ok x = k in cc)
-    by_root (Some y) h k = by_argument y.0 y.1 (older_below f n bytes y h) (root_of d w ids os y.0) k
+    by_root (Some y) h k = by_argument y.0 y.1 (older_below f n bytes y h) (root_of d w ids os y.0) refl k
 
 pub tail_ended : (d : Dictionaries) (w : World) (f : Format) (n : ℕ) (ids : List ℕ) (os : List Object) (bytes : List ℕ) (j i : ℕ) (rest : List ℕ) (v : Value) (end : List ℕ) → as_root d w ids os (older f n bytes) ≡ Some ((j, i), rest) → value_at d f ids n i rest ≡ Ok (v, end) → true ≡ eqb (length end) 0 → tail_at d w f n ids os bytes ≡ Ok (j, v)
 tail_ended d w f n ids os bytes j i rest v [] e h none = tail_value d w f n ids os bytes j i rest v [] e h

@@ -139,8 +139,8 @@ unfolding message_at
 sealed d w seal bytes e = rw (sym e) refl
 
 -- what is said of an answer that is known
-pub whole_when : (old : Contents) (read : Result Message ℕ) (o t : Option Ready) (new : Contents) → o ≡ t → ReadsWhole old read (Ok o) new → ReadsWhole old read (Ok t) new
-whole_when old read o t new e h = subst (λ (x : Option Ready). ReadsWhole old read (Ok x) new) e h
+pub whole_when : (d : Dictionaries) (w : World) (old : Contents) (read : Result Message ℕ) (o t : Option Ready) (new : Contents) → o ≡ t → ReadsWhole d w old read (Ok o) new → ReadsWhole d w old read (Ok t) new
+whole_when d w old read o t new e h = subst (λ (x : Option Ready). ReadsWhole d w old read (Ok x) new) e h
 
 -- the bytes from a place on, as a slice has them
 pub back_is : (n : ℕ) (bytes : List ℕ) → take (length bytes - n) (drop n bytes) ≡ drop n bytes

@@ -1,17 +1,17 @@
 -- What is written of an object, field by field, and of all objects one after the other.
-use Rattle.std.proofs.Common.{◌≡◌, ℕ, zero, suc, ◌+◌, true, cond, eqb, List, [], ◌∷◌, ◌++◌, length, map, take, drop, Option, Some, None, Bool, false, slice_get, refl, sym, ap, subst, ◌∙◌, append_assoc, append-nil, arith, pos}
+use Rattle.std.proofs.Common.{◌≡◌, ℕ, zero, suc, ◌+◌, List, [], ◌∷◌, ◌++◌, length, map, take, drop, Option, Some, None, slice_get, refl, sym, ap, subst, ◌∙◌, append_assoc, append-nil, arith}
 use Rattle.std.specs.Int.{w32, to_be_bytes}
 use Rattle.std.proofs.lemmas.List.{drop_at}
 use Rattle.m5_region.specs.declared.value.Value.{Value}
-use Rattle.m5_region.specs.declared.value.Value.TheVariants as values
-use Rattle.m5_region.specs.Region.{Object, ArrayOf, TextOf}
+use Rattle.m5_region.specs.Region.{Object, ArrayOf}
 use Rattle.m5_dictionary.specs.declared.line.TypeLine.{TypeLine}
 use Rattle.m5_dictionary.specs.declared.line.TypeLine.TheVariants as lines
-use Rattle.m5_dictionary.specs.Dictionaries.{Dictionaries, Entrance}
-use Rattle.m5_message.specs.Reading.{Opening, Whole, Parts, side, cell_of_list, entered, is_object_line}
+use Rattle.m5_dictionary.specs.Dictionaries.{Dictionaries}
+use Rattle.m5_message.specs.Reading.{Opening, Whole, Parts, is_object_line}
 use Rattle.m5_message.specs.Spelling.{short_of, values_bytes, opening_bytes, opening_in, fields_behind, closing_bytes, opened_bytes, content_bytes, contents_bytes, ids_bytes, IsOf, AreOf}
 use Rattle.m5_message.specs.Packing.{Reached, IsFit, value_reaches, values_reach, opened_reaches, object_reaches, reaches, sent_values, sent_opened, sent_object, sent}
 use Rattle.m5_message.proofs.Marks.{all_left, all_right}
+use Rattle.m5_message.proofs.Packs.{opening_kept}
 use Rattle.m5_marshal.specs.declared.key.Key.{Key}
 use Rattle.m5_marshal.specs.declared.opening.Opened.{Opened}
 use Rattle.m5_marshal.specs.declared.opening.Opened.TheVariants as kept
@@ -93,35 +93,6 @@ parts_sent d os ps k (kept.Pair others) fit o h = array_sent d os ps (reached k)
 parts_sent d os ps k (kept.Parts first others) fit o h = array_sent d os ps (reached k) o.0 (first ∷ []) (others_of others) 1 refl o.1 fit o.2 h
 
 -- ---- the first fields of an object stay as it is sent
-
-entered_is : (i l : ℕ) (m : Option Entrance) (p : Opening) → entered i l m ≡ Some p → (env : List ℕ) × (p ≡ Parts (values.Int (pos l) ∷ []) env)
-entered_is i l None p e = absurd (let none : None ≡ Some p = e in cc)
-entered_is i l (Some ent) p e = chosen (eqb ent.argument i) e
-  where
-    chosen : (b : Bool) → cond b (Some (Parts (values.Int (pos l) ∷ []) ent.environment)) None ≡ Some p → (env : List ℕ) × (p ≡ Parts (values.Int (pos l) ∷ []) env)
-    chosen false q = absurd (let none : None ≡ Some p = q in cc)
-    chosen true q = (ent.environment, sym (some_is _ _ q))
-
-abbrev Kept : Dictionaries → List Reached → ℕ → Option TypeLine → Object → Opening → Type 0
-Kept d ps id line o p = opening_in d id line (sent_opened d ps (Some p) o) ≡ Some p
-
-side_kept : (d : Dictionaries) (ps : List Reached) (id i j : ℕ) (b : Bool) (vs : List Value) → Kept d ps id (Some (lines.Sum i j)) (ArrayOf (values.Bool b ∷ vs)) (side i j b)
-side_kept d ps id i j false vs = refl
-side_kept d ps id i j true vs = refl
-
-list_kept : (d : Dictionaries) (ps : List Reached) (id i : ℕ) (b : Bool) (vs : List Value) → Kept d ps id (Some (lines.List i)) (ArrayOf (values.Bool b ∷ vs)) (cell_of_list i id b)
-list_kept d ps id i false vs = refl
-list_kept d ps id i true vs = refl
-
-opening_kept : (d : Dictionaries) (ps : List Reached) (id : ℕ) (line : Option TypeLine) (o : Object) (p : Opening) → opening_in d id line o ≡ Some p → Kept d ps id line o p
-opening_kept d ps id (Some lines.Text) (TextOf bytes) p e = subst (λ (x : Opening). Kept d ps id (Some lines.Text) (TextOf bytes) x) (some_is _ _ e) refl
-opening_kept d ps id (Some (lines.Pair i j)) (ArrayOf vs) p e = subst (λ (x : Opening). Kept d ps id (Some (lines.Pair i j)) (ArrayOf vs) x) (some_is _ _ e) refl
-opening_kept d ps id (Some (lines.Sum i j)) (ArrayOf (values.Bool b ∷ vs)) p e = subst (λ (x : Opening). Kept d ps id (Some (lines.Sum i j)) (ArrayOf (values.Bool b ∷ vs)) x) (some_is _ _ e) (side_kept d ps id i j b vs)
-opening_kept d ps id (Some (lines.List i)) (ArrayOf (values.Bool b ∷ vs)) p e = subst (λ (x : Opening). Kept d ps id (Some (lines.List i)) (ArrayOf (values.Bool b ∷ vs)) x) (some_is _ _ e) (list_kept d ps id i b vs)
-opening_kept d ps id (Some (lines.Fun i)) (ArrayOf (values.Int (pos l) ∷ vs)) p e =
-    let is = entered_is i l (slice_get d.labels l) p e in
-    subst (λ (x : Opening). opening_in d id (Some (lines.Fun i)) (sent_opened d ps (Some x) (ArrayOf (values.Int (pos l) ∷ vs))) ≡ Some p) (sym is.1) e
-opening_kept d ps id line o p e = absurd (let none : None ≡ Some p = e in cc)
 
 sent_is : (d : Dictionaries) (os : List Object) (ps : List Reached) (own : ℕ) (k : Reached) (o : Object) (p : Opening) → slice_get os k.at ≡ Some o → opening_in d k.id (slice_get d.types k.id) o ≡ Some p → content_bytes d own k.id (sent d os ps k) ≡ opening_bytes p ++ closing_bytes d own p (sent_opened d ps (Some p) o)
 sent_is d os ps own k o p is e =

@@ -5,3 +5,4 @@ pub mod Opened
 pub mod Adding
 pub mod Tail
 pub mod Keys
+pub mod Fits

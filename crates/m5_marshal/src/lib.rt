@@ -4,6 +4,7 @@
 mod add;
 mod contents;
 mod field;
+mod fits;
 mod ids;
 mod key;
 mod marking;
@@ -13,10 +14,12 @@ mod opening;
 mod packing;
 mod pass;
 mod places;
+mod premise;
 mod root;
 mod spell;
 mod unpacking;
 mod writing;
 
 pub use packing::pack;
+pub use premise::has_bytes;
 pub use unpacking::{UnpackEnd, unpack};

@@ -75,7 +75,7 @@ fn want_fields(
 }
 
 /// Marks what an object reaches at once.
-fn want_parts(
+pub(crate) fn want_parts(
     todo: &mut BTreeSet<Key>,
     region: &Region,
     dicts: &Dicts,

@@ -23,7 +23,7 @@ use std::alloc::{AllocError, Global};
 use std::collections::BTreeSet;
 
 /// The type id of the functions that take this argument.
-fn function_of(types: &[TypeLine], argument: u32) -> u32
+pub(crate) fn function_of(types: &[TypeLine], argument: u32) -> u32
     requires { length types.now < 2 ^ 32 }
     ensures { (n : ℕ) → slice_get types.now n ≡ Some (lines.Fun argument) → slice_get types.now result ≡ Some (lines.Fun argument) }
 {

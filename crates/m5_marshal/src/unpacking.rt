@@ -1,10 +1,10 @@
 //! A message read into a region.
 
-ghost use Rattle.std.specs.Prelude.{◌≡◌, ◌≤◌, ◌<◌, ◌+◌, ◌^◌, length, take, Err};
+ghost use Rattle.std.specs.Prelude.{◌≡◌, ◌≤◌, ◌<◌, ◌+◌, ◌^◌, length, take, Err, IfOk};
 ghost use Rattle.m5_message.specs.Packing.{target};
 ghost use Rattle.m5_message.specs.Sharing.{shifted};
 ghost use Rattle.m5_message.specs.Message.{body_at, version_at};
-ghost use Rattle.m5_marshal.specs.Unpack.{Unpacks};
+ghost use Rattle.m5_marshal.specs.Unpack.{Unpacks, AreThere, StandsAt};
 ghost use Rattle.m5_marshal.specs.code.Ids.{words};
 ghost use Rattle.m5_marshal.specs.code.Tail.{objects_at, ReadsWhole};
 ghost use Rattle.m5_region.specs.Region.{units_in};
@@ -56,7 +56,7 @@ fn read_objects(
     contents: &[u8],
 ) -> Result<Option<Ready>, usize>
     requires { count ≡ length (words ids.now) }
-    ensures { ReadsWhole region.old (objects_at dicts.now world format count (words ids.now) contents.now) result region.new }
+    ensures { ReadsWhole dicts.now world region.old (objects_at dicts.now world format count (words ids.now) contents.now) result region.new }
 {
     let base = region.count();
     match add_contents(region, dicts, format, ids, count, contents) {
@@ -85,7 +85,7 @@ fn read_body(
     format: Format,
     bytes: &[u8],
 ) -> Result<Option<Ready>, usize>
-    ensures { ReadsWhole region.old (body_at dicts.now world format bytes.now) result region.new }
+    ensures { ReadsWhole dicts.now world region.old (body_at dicts.now world format bytes.now) result region.new }
 {
     match number(format, bytes) {
         None => Err(bytes.len()),
@@ -106,7 +106,7 @@ fn read_version(
     world: World,
     bytes: &[u8],
 ) -> Result<Option<Ready>, usize>
-    ensures { ReadsWhole region.old (version_at dicts.now world bytes.now) result region.new }
+    ensures { ReadsWhole dicts.now world region.old (version_at dicts.now world bytes.now) result region.new }
 {
     if bytes.is_empty() {
         return Err(0);
@@ -141,7 +141,9 @@ pub fn unpack(
     seal: &Seal,
     bytes: &[u8],
 ) -> Result<Ready, UnpackEnd>
-    ensures { Unpacks dicts.now world seal.now.0 bytes.now region.old result region.new }
+    ensures is { Unpacks dicts.now world seal.now.0 bytes.now region.old result region.new }
+    ensures refers { IfOk result (AreThere region.new.objects) }
+    ensures stands { IfOk result (StandsAt dicts.now world region.new.objects) }
 {
     if !bytes.starts_with(&seal.0) {
         return Err(UnpackEnd::Unsealed);

@@ -26,7 +26,7 @@ use Rattle.m5_message.proofs.Sent.{tree_at, id_of, tree_from, Found, found, Send
 some_is : {A : Type 0} (x y : A) → Some x ≡ Some y → x ≡ y
 some_is x y e = cc
 
-entered_is : (i l : ℕ) (m : Option Entrance) (p : Opening) → entered i l m ≡ Some p → (env : List ℕ) × (p ≡ Parts (values.Int (pos l) ∷ []) env)
+pub entered_is : (i l : ℕ) (m : Option Entrance) (p : Opening) → entered i l m ≡ Some p → (env : List ℕ) × (p ≡ Parts (values.Int (pos l) ∷ []) env)
 entered_is i l None p e = absurd (let none : None ≡ Some p = e in cc)
 entered_is i l (Some ent) p e = chosen (eqb ent.argument i) e
   where
@@ -34,7 +34,7 @@ entered_is i l (Some ent) p e = chosen (eqb ent.argument i) e
     chosen false q = absurd (let none : None ≡ Some p = q in cc)
     chosen true q = (ent.environment, sym (some_is _ _ q))
 
-abbrev Kept : Dictionaries → List Reached → ℕ → Option TypeLine → Object → Opening → Type 0
+abbrev pub Kept : Dictionaries → List Reached → ℕ → Option TypeLine → Object → Opening → Type 0
 Kept d ps id line o p = opening_in d id line (sent_opened d ps (Some p) o) ≡ Some p
 
 side_kept : (d : Dictionaries) (ps : List Reached) (id i j : ℕ) (b : Bool) (vs : List Value) → Kept d ps id (Some (lines.Sum i j)) (ArrayOf (values.Bool b ∷ vs)) (side i j b)
@@ -45,7 +45,7 @@ list_kept : (d : Dictionaries) (ps : List Reached) (id i : ℕ) (b : Bool) (vs :
 list_kept d ps id i false vs = refl
 list_kept d ps id i true vs = refl
 
-opening_kept : (d : Dictionaries) (ps : List Reached) (id : ℕ) (line : Option TypeLine) (o : Object) (p : Opening) → opening_in d id line o ≡ Some p → Kept d ps id line o p
+pub opening_kept : (d : Dictionaries) (ps : List Reached) (id : ℕ) (line : Option TypeLine) (o : Object) (p : Opening) → opening_in d id line o ≡ Some p → Kept d ps id line o p
 opening_kept d ps id (Some lines.Text) (TextOf bytes) p e = subst (λ (x : Opening). Kept d ps id (Some lines.Text) (TextOf bytes) x) (some_is _ _ e) refl
 opening_kept d ps id (Some (lines.Pair i j)) (ArrayOf vs) p e = subst (λ (x : Opening). Kept d ps id (Some (lines.Pair i j)) (ArrayOf vs) x) (some_is _ _ e) refl
 opening_kept d ps id (Some (lines.Sum i j)) (ArrayOf (values.Bool b ∷ vs)) p e = subst (λ (x : Opening). Kept d ps id (Some (lines.Sum i j)) (ArrayOf (values.Bool b ∷ vs)) x) (some_is _ _ e) (side_kept d ps id i j b vs)

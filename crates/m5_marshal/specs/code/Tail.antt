@@ -9,7 +9,7 @@ use Rattle.m5_dictionary.specs.Dictionaries.{Dictionaries}
 use Rattle.m5_message.specs.Numbers.{◌>>=◌}
 use Rattle.m5_message.specs.Reading.{value_at, contents_at}
 use Rattle.m5_message.specs.Message.{Message, root_at, ended}
-use Rattle.m5_marshal.specs.Unpack.{Adds, ready_behind}
+use Rattle.m5_marshal.specs.Unpack.{Adds, ready_behind, AreThere, StandsAt}
 use Rattle.m5_marshal.specs.code.Adding.{Extends}
 
 -- the root and the argument, behind the contents
@@ -28,8 +28,8 @@ objects_at d w f n ids bytes = do
 
 -- A message was read whole: its objects were added, or do not fit. At a bad field, and where they do not
 -- fit, some objects were added.
-abbrev pub ReadsWhole : Contents → Result Message ℕ → Result (Option Ready) ℕ → Contents → Type 0
-ReadsWhole old read (Ok (Some ready)) new =
-    (m : Message) × (read ≡ Ok m) × Adds old new m × (ready ≡ ready_behind (length old.objects) m)
-ReadsWhole old read (Ok None) new = (m : Message) × (read ≡ Ok m) × (old.left < units_in m.objects) × Extends old new
-ReadsWhole old read (Err e) new = (read ≡ Err e) × Extends old new
+abbrev pub ReadsWhole : Dictionaries → World → Contents → Result Message ℕ → Result (Option Ready) ℕ → Contents → Type 0
+ReadsWhole d w old read (Ok (Some ready)) new =
+    (m : Message) × (read ≡ Ok m) × Adds old new m × (ready ≡ ready_behind (length old.objects) m) × AreThere new.objects ready × StandsAt d w new.objects ready
+ReadsWhole d w old read (Ok None) new = (m : Message) × (read ≡ Ok m) × (old.left < units_in m.objects) × Extends old new
+ReadsWhole d w old read (Err e) new = (read ≡ Err e) × Extends old new

@@ -17,4 +17,4 @@ returns-in-Err c = (body_no_ids c.args.dicts.now c.args.world c.args.format c.ar
 pub returns-in-Ok : goal.returns-in-Ok
 returns-in-Ok c =
     let e = body_objects c.args.dicts.now c.args.world c.args.format c.args.bytes.now c.in-Some.count c.in-Some.rest.now (words c.in-Ok.ids.now) c.in-Ok.contents.now c.in-Some.ensures c.in-Ok.ensures in
-    subst (λ (r : Result Message ℕ). ReadsWhole c.args.region.now r c.read_objects.result c.read_objects.new.region) (sym e) c.read_objects.ensures
+    subst (λ (r : Result Message ℕ). ReadsWhole c.args.dicts.now c.args.world c.args.region.now r c.read_objects.result c.read_objects.new.region) (sym e) c.read_objects.ensures
