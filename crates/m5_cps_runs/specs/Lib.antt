@@ -1,0 +1,4 @@
+pub mod Examples
+pub mod Asking
+pub mod Greeting
+pub mod Chat

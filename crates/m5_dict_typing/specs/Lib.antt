@@ -1,0 +1,4 @@
+pub mod Values
+pub mod Sites
+pub mod Trees
+pub mod Laws

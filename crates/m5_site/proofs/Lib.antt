@@ -1,0 +1,9 @@
+pub mod Made
+pub mod Sendable
+pub mod Handling
+pub mod Opened
+pub mod Fuel
+pub mod Computed
+pub mod Growing
+pub mod Arriving
+pub mod Apart

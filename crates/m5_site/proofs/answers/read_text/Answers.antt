@@ -1,0 +1,16 @@
+use Rattle.m5_site.proofs.Made.{may_run}
+use Rattle.m5_site.proofs.answers.read_text.Goals as goal
+
+pub returns-in_default-clause-sound : goal.returns-in_default-clause-sound
+returns-in_default-clause-sound c = λ code s h. c.new_text.ensures.grows.sound code s
+
+pub returns-in_default-new_array-clause-sound : goal.returns-in_default-new_array-clause-sound
+returns-in_default-new_array-clause-sound c = λ code s h. c.new_array.ensures.grows.sound code (c.new_text.ensures.grows.sound code s)
+
+pub returns-in-Some-new_array-clause-sound : goal.returns-in-Some-new_array-clause-sound
+returns-in-Some-new_array-clause-sound c = λ code s h.
+    c.enter.ensures.sound code
+    (c.new_array.ensures.grows.sound code (c.new_text.ensures.grows.sound code s))
+    (may_run code c.new_array.new.state.bench.region.objects c.args.next c.in-Some-new_array.some
+    (c.new_array.ensures.grows.closures code c.args.next (c.new_text.ensures.grows.closures code c.args.next h))
+    c.in-Some-new_array.ensures.refers)

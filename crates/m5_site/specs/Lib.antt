@@ -1,0 +1,9 @@
+pub mod Object
+pub mod Sending
+pub mod Making
+pub mod Answers
+pub mod Site
+pub mod Kind
+pub mod Held
+pub mod Stops
+pub mod code

@@ -1,0 +1,2 @@
+-- What the code keeps while it runs a site.
+pub mod Sound

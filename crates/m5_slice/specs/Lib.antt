@@ -1,0 +1,5 @@
+pub mod Slicing
+pub mod Machine
+pub mod Going
+pub mod Apart
+pub mod code
