@@ -1,4 +1,4 @@
-// Runs the codes that the program js_forms prints by this engine, and compares what it makes of them with what the machine of
+// Runs the codes that the program code_forms prints by this engine, and compares what it makes of them with what the machine of
 // homes and panels made: the end of the run, each value by its structure, the cells and the threads that wait.
 "use strict";
 
