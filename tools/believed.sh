@@ -12,9 +12,11 @@ headline='m5_cli/specs/Headline m5_cli/specs/Status'
 claims='m5_terms/specs/Laws m5_terms/specs/Related m5_keys/specs/Keys m5_lex/specs/Shown m5_poly/specs/Expansion m5_poly/specs/Plain
   m5_scope/specs/Binders m5_typing/specs/Laws m5_network/specs/Laws m5_site_sound/specs/Laws m5_sound/specs/Laws m5_hall/specs/Passes
   m5_hall/specs/History m5_cps/specs/Machine m5_cps/specs/Program m5_cps_typing/specs/Laws m5_cps_convert/specs/Laws
+  m5_cps_runs/specs/Greeting m5_cps_runs/specs/Chat
   m5_flat/specs/Program m5_flat_typing/specs/Laws m5_close/specs/Closing m5_hoist/specs/Hoisting
-  m5_dict/specs/Dictionaries
-  m5_region/specs/Layout m5_region/specs/Bench m5_machine/specs/Run m5_message/specs/Laws m5_marshal/specs/Unpack
+  m5_dict/specs/Dictionaries m5_slice/specs/Slicing m5_slice/specs/Going m5_slice/specs/Apart
+  m5_region/specs/Layout m5_region/specs/Bench m5_machine/specs/Run m5_message/specs/Laws m5_marshal/specs/Pack m5_marshal/specs/Unpack
+  m5_dict_typing/specs/Laws m5_site/specs/Kind
   m5_replay/specs/Laws'
 
 # The files that are reached by `use` lines from those that are named, one on a line.
