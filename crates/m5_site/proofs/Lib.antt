@@ -3,6 +3,8 @@ pub mod Sendable
 pub mod Handling
 pub mod Opened
 pub mod Fuel
+pub mod OwnRuns
+pub mod OwnAsks
 pub mod Computed
 pub mod Growing
 pub mod Arriving

@@ -3,6 +3,7 @@ pub mod Sending
 pub mod Making
 pub mod Answers
 pub mod Site
+pub mod Own
 pub mod Kind
 pub mod Held
 pub mod Stops

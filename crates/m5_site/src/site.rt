@@ -6,6 +6,7 @@ ghost use Rattle.m5_site.specs.declared.state.Wait.TheVariants as waits;
 ghost use Rattle.m5_site.specs.Answers.{answered};
 ghost use Rattle.m5_site.specs.Held.{IsSiteOf};
 ghost use Rattle.m5_site.specs.Object.{code_of};
+ghost use Rattle.m5_site.specs.Own.{IsOwnAsk};
 ghost use Rattle.m5_site.specs.code.Sound.{IsSoundState, WaitFits};
 ghost use Rattle.m5_site.specs.Site.{empty, opening, need_of, IsAsked, query};
 ghost use Rattle.m5_site.specs.Stops.{ComesTo};
@@ -151,17 +152,19 @@ impl Site {
         ensures session { self.new.session ≡ self.old.session }
         ensures world { self.new.world ≡ self.old.world }
     {
+        object.is_object();
         let wait = computed(alloc, object, self.at_world, &mut self.has)?;
         self.waits_for = wait;
         Ok(need_of(wait))
     }
 
-    /// What the site asks, where `compute` answered that it asks: a primitive's call, or a send with
-    /// the bytes of its thread.
+    /// What the site asks, where `compute` answered that it asks: a call of a primitive of its own
+    /// world, or a send of the bytes of its thread, with the session's seal, to another world.
     pub fn ask(&self, alloc: Global, object: &Object) -> Result<Ask, AllocError>
         requires of { IsSiteOf object.now self.now }
         requires asked { IsAsked self.now.wait }
-        ensures { IfOk result (λ ask. ask ≡ query object.now self.now.session self.now.state self.now.wait) }
+        ensures query { IfOk result (λ ask. ask ≡ query object.now self.now.session self.now.state self.now.wait) }
+        ensures own { IfOk result (λ ask. IsOwnAsk self.now.session self.now.world ask) }
     {
         let state = &self.has;
         match self.waits_for {

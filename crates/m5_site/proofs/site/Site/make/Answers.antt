@@ -9,4 +9,5 @@ returns-clause-of c = record {
   world = c.requires.world;
   sound = subst (IsSoundState (code_of c.args.object.now c.args.world)) (sym c.open.ensures) (opening_sound c.args.object.now c.args.limits c.args.world c.is_object.ensures);
   fits = tt;
+  own = tt;
 }
