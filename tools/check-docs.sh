@@ -37,6 +37,7 @@ check() {
 }
 
 check docs/claims.md believed.sh
+check docs/architecture.md passes.sh
 check docs/architecture.md index.sh
 check examples/README.md examples-index.sh
 [ "$failed" -eq 0 ] && echo "check-docs: the blocks are as the scripts print them"
