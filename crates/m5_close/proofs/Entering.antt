@@ -1,5 +1,5 @@
 -- What a thread is about to run.
-use Rattle.std.proofs.Common.{◌≡◌, ℕ, zero, suc, ◌+◌, ◌-◌, ◌<◌, List, [], ◌∷◌, length, Option, Some, None, IsTrue, refl, sym, ap, subst, arith, slice_get}
+use Rattle.std.proofs.Common.{◌≡◌, inl, inr, ℕ, zero, suc, ◌+◌, ◌-◌, ◌<◌, List, [], ◌∷◌, length, Option, Some, None, IsTrue, refl, sym, ap, subst, arith, slice_get}
 use Rattle.std.specs.List.{AllZip, AllByRecursion as Each}
 use Rattle.m5_terms.specs.Substitution.{among}
 use Rattle.m5_terms.specs.Primitives.{primitive_world}
@@ -114,6 +114,13 @@ module _ (E : Setting) (B : Blocks) (L : List ℕ) where
   function_block (j ∷ is) (c ∷ cs) zero i h e = let q : j ≡ i = cc (e) in (c, refl, subst (λ z. IsDeclared E B L z c) q h.0)
   function_block (j ∷ is) (c ∷ cs) (suc f) i h e = function_block is cs f i h.1 e
 
+  pub functions_missing : (is : List ℕ) (cs : List source.Block) (f : ℕ) → AllZip (IsDeclared E B L) is cs → slice_get is f ≡ None → slice_get cs f ≡ None
+  functions_missing [] [] f h e = refl
+  functions_missing [] (c ∷ cs) f h e = absurd h
+  functions_missing (j ∷ is) [] f h e = absurd h
+  functions_missing (j ∷ is) (c ∷ cs) zero h e = absurd (cc (e))
+  functions_missing (j ∷ is) (c ∷ cs) (suc f) h e = functions_missing is cs f h.1 e
+
 module _ (C0 : source.Blocks) (B : Blocks) (d : IsProgram C0) (made : IsClosed C0 B) where
   abbrev E : Setting
   E = setting_of C0
@@ -124,19 +131,26 @@ module _ (C0 : source.Blocks) (B : Blocks) (d : IsProgram C0) (made : IsClosed C
   abbrev Start : Option flat_running.Entered → Option cps_running.Entered → Type 0
   Start = OptionReads (Begins E B L)
 
-  glob_block : (i g : ℕ) → IsFunction E B L i (leaf_form.Glob g) → (b : source.Block) × (slice_get C0.functions g ≡ Some b) × IsDeclared E B L i b × IsCalled (declared_entry b.entry)
-  glob_block i g e = let b = function_block E B L L C0.functions g i made.functions e.0 in (b.0, b.1, b.2, declared_called b.0.entry (each_at (IsFunctionBlock (setting_of C0)) C0.functions g b.0 d.functions b.1).function)
+  glob_block : (i g : ℕ) → slice_get L g ≡ Some i → (b : source.Block) × (slice_get C0.functions g ≡ Some b) × IsDeclared E B L i b × IsCalled (declared_entry b.entry)
+  glob_block i g e = let b = function_block E B L L C0.functions g i made.functions e in (b.0, b.1, b.2, declared_called b.0.entry (each_at (IsFunctionBlock (setting_of C0)) C0.functions g b.0 d.functions b.1).function)
 
   glob_begins : (i : ℕ) (σ : ℕ → flat.Value) (g : ℕ) (x : flat.Value) (z : cps.Value) (k : flat.Value) (l : cps.Value) → EmptyFrom 0 σ → IsFunction E B L i (leaf_form.Glob g) → Reads E B L x z → Reads E B L k l → Start (called_by B (closed (under i 0) σ) x k) (cps_running.called_by C0 (atom (leaf_form.Glob g)) z l)
-  glob_begins i σ g x z k l ef e r q = let b = glob_block i g e in
+  glob_begins i σ g x z k l ef (inr n, p) r q =
+      subst (λ o. Start (with_block o (call_block i 0 σ x k)) (cps_running.called_by C0 (atom (leaf_form.Glob g)) z l)) (sym n.1)
+      (subst (λ o. Start None (cps_running.declared_block g z l o)) (sym (functions_missing E B L L C0.functions g made.functions n.0)) tt)
+  glob_begins i σ g x z k l ef (inl s, p) r q = let b = glob_block i g s in
       subst (λ o. Start (with_block o (call_block i 0 σ x k)) (cps_running.called_by C0 (atom (leaf_form.Glob g)) z l)) (sym b.2.1) (subst (λ o. Start (call_block i 0 σ x k (declared_entry b.0.entry) b.2.0) (cps_running.declared_block g z l o)) (sym b.1) (by_entry (declared_entry b.0.entry) b.0.code b.2 b.3))
     where
       by_entry : (y : Entry) (c : Code) → (m : IsBlockOf E B L i y no_kinds 0 c) → IsCalled y → Start (call_block i 0 σ x k y m.0) (Some (cps_running.called (atom (leaf_form.Glob g)) z l 0 cps_running.no_values c))
-      by_entry (by_call m A D) c md h = function_begins E B L _ _ i σ (leaf_form.Glob g) c md.0 x z k l ef e md.3 r q
+      by_entry (by_call m A D) c md h = function_begins E B L _ _ i σ (leaf_form.Glob g) c md.0 x z k l ef (inl s, p) md.3 r q
       by_entry (by_value m T) c md h = absurd h
 
   extern_begins : (i : ℕ) (σ : ℕ → flat.Value) (p : Primitive) (x : flat.Value) (z : cps.Value) (k : flat.Value) (l : cps.Value) → EmptyFrom 0 σ → IsFunction E B L i (leaf_form.Extern p) → Reads E B L x z → Reads E B L k l → Start (called_by B (closed (under i 0) σ) x k) (cps_running.called_by C0 (atom (leaf_form.Extern p)) z l)
   extern_begins i σ p x z k l ef e r q = subst (λ o. Start (with_block o (call_block i 0 σ x k)) (cps_running.called_by C0 (atom (leaf_form.Extern p)) z l)) (sym e.0.2) (function_begins E B L (primitive_world p) no_kinds i σ (leaf_form.Extern p) (source.ends (ask p 1 2)) (target.ends (ask p 1 2)) x z k l ef e refl r q)
+
+  glob_value : (i g : ℕ) (σ : ℕ → flat.Value) (x : flat.Value) → IsFunction E B L i (leaf_form.Glob g) → Start (entered_by B (closed (under i 0) σ) x) None
+  glob_value i g σ x (inl s, p) = let b = glob_block i g s in not_value E B L i σ x (record { entry = declared_entry b.0.entry; environment = []; code = b.2.0 }) b.2.1 b.3
+  glob_value i g σ x (inr n, p) = subst (λ o. Start (with_block o (enter_block i 0 σ x)) None) (sym n.1) tt
 
   no_calls : (f : LeafForm) → IsPlain (constant f) → (x : flat.Value) (z : cps.Value) (k : flat.Value) (l : cps.Value) → Start (called_by B (atom f) x k) (cps_running.called_by C0 (atom f) z l)
   no_calls (leaf_form.Glob f) p x z k l = absurd p
@@ -145,7 +159,7 @@ module _ (C0 : source.Blocks) (B : Blocks) (d : IsProgram C0) (made : IsClosed C
 
   pub resolves : (th : flat.Thread) (ti : cps.Thread) → ReadsThread E B L th ti → Start (resolved B th) (cps_running.resolved C0 ti)
   resolves (enter k x) (enter l z) r = by_heads E B L (λ k l. Start (entered_by B k x) (cps_running.entered_by l z)) (λ f p. tt) (λ f a c e. tt) (λ f a b c d e o. tt) (λ i j σ y n c ρ e. value_begins E B L i j σ y n c ρ x z e r.1)
-      (λ i σ g ef e. let b = glob_block i g e in not_value E B L i σ x (record { entry = declared_entry b.0.entry; environment = []; code = b.2.0 }) b.2.1 b.3) (λ i σ p ef e. not_value E B L i σ x (asking_block p e.0.0 e.0.1) e.0.2 (at_world (primitive_world p) e.0.0 e.0.1)) k l r.0
+      (λ i σ g ef e. glob_value i g σ x e) (λ i σ p ef e. not_value E B L i σ x (asking_block p e.0.0 e.0.1) e.0.2 (at_world (primitive_world p) e.0.0 e.0.1)) k l r.0
     where
       at_world : (w : World) (A D : _) → IsCalled (by_call (only w) A D)
       at_world w A D = tt

@@ -1,5 +1,5 @@
 -- A straight form that fits does so under labels, where a function is a closure that takes nothing.
-use Rattle.std.proofs.Common.{◌≡◌, ◌≢◌, inl, inr, ℕ, suc, ◌==◌, Bool, true, false, if◌then◌else◌, List, [], ◌∷◌, slice_get, Some, refl, sym, ap, subst, ◌∙◌, arith}
+use Rattle.std.proofs.Common.{◌≡◌, ◌≢◌, inl, inr, ℕ, suc, ◌==◌, Bool, true, false, if◌then◌else◌, List, [], ◌∷◌, slice_get, Some, None, refl, sym, ap, subst, ◌∙◌, arith}
 use Rattle.std.specs.List.{AllByRecursion as Each}
 use Rattle.m5_terms.specs.TypeExpression.{TypeExpression, function}
 use Rattle.m5_terms.specs.Primitives.{primitive_world, primitive_type}
@@ -21,7 +21,7 @@ use Rattle.m5_flat.specs.Blocks as target
 use Rattle.m5_flat.specs.Fits.{Environments, Fits}
 use Rattle.m5_close.specs.Close.{anew, asking_block, declared_entry, AsksBy, IsFunctionMade, IsStraightMade, IsClosed}
 use Rattle.m5_close.proofs.Slots.{or_left, or_right, itself}
-use Rattle.m5_close.proofs.Entering.{function_block}
+use Rattle.m5_close.proofs.Entering.{function_block, functions_missing}
 use Rattle.m5_close.proofs.Follow.{AtLeast, Follows, Covered, needs_on}
 
 -- the labels of functions and of primitives have empty environments
@@ -53,6 +53,10 @@ declared_has (by_call (only Any) A D) m G (inl e) = absurd (let q = e.1 in cc)
 declared_has (by_call (only Any) A D) m G (inr e) = (inr refl, ap of (cc))
 declared_has (by_call everywhere A D) m G (inl e) = absurd (let q = e.1 in cc)
 declared_has (by_call everywhere A D) m G (inr e) = (inr refl, ap of (cc))
+
+undeclared : (w : World) (G : TypeExpression) → IsKnownAt (block_bound None) w G → ⊥
+undeclared w G (inl e) = cc (e.1)
+undeclared w G (inr e) = cc (e)
 
 not_any : (p : Primitive) → primitive_world p ≢ Any
 not_any primitive.Say e = cc
@@ -100,10 +104,12 @@ module _ (C : source.Blocks) (B : Blocks) (d : IsProgram C) (made : IsClosed C B
     )
 
     global_fits : (g : ℕ) (P : Mode → SlotType → Type 0) → IsFunctionMade E B L (leaf_form.Glob g) c e → StraightFits E b S (constant (leaf_form.Glob g)) P → StraightFits E b S (constant (leaf_form.Glob g)) (And P)
-    global_fits g P md h =
-        let x = function_block E B L L C.functions g md.0 made.functions md.2.0 in
+    global_fits g P (i, q, (inr n, p)) h =
+        absurd (undeclared (world_of h.0) h.1 (subst (λ o. IsKnownAt (block_bound o) (world_of h.0) h.1) (functions_missing E B L L C.functions g made.functions n.0) h.3.0.3))
+    global_fits g P (i, q, (inl s, p)) h =
+        let x = function_block E B L L C.functions g i made.functions s in
         let k = declared_has x.0.entry h.0 h.1 (subst (λ o. IsKnownAt (block_bound o) (world_of h.0) h.1) x.1 h.3.0.3) in
-        (h.0, h.1, h.2, h.3, (h.4, closure_finishes md.0 (record { entry = declared_entry x.0.entry; environment = []; code = x.2.0 }) h.0 (of h.1) md.1 x.2.1 (λ M base. base.functions g md.0 md.2.0) k.0 k.1))
+        (h.0, h.1, h.2, h.3, (h.4, closure_finishes i (record { entry = declared_entry x.0.entry; environment = []; code = x.2.0 }) h.0 (of h.1) q x.2.1 (λ M base. base.functions g i s) k.0 k.1))
 
     primitive_fits : (p : Primitive) (P : Mode → SlotType → Type 0) → IsFunctionMade E B L (leaf_form.Extern p) c e → StraightFits E b S (constant (leaf_form.Extern p)) P → StraightFits E b S (constant (leaf_form.Extern p)) (And P)
     primitive_fits p P md h =

@@ -1,5 +1,5 @@
 -- Closing: each closure takes the slots that its block uses, and a block's slots are numbered anew.
-use Rattle.std.specs.Prelude.{◌≡◌, ℕ, zero, suc, ◌+◌, ◌-◌, ◌<◌, ◌≤◌, ◌==◌, nat_lt, IsTrue, false, if◌then◌else◌, List, [], ◌∷◌, ◌++◌, map, length, Some, None, slice_get}
+use Rattle.std.specs.Prelude.{◌≡◌, ◌⊎◌, ℕ, zero, suc, ◌+◌, ◌-◌, ◌<◌, ◌≤◌, ◌==◌, nat_lt, IsTrue, false, if◌then◌else◌, List, [], ◌∷◌, ◌++◌, map, length, Some, None, slice_get}
 use Rattle.std.specs.List.{AllZip, AllByRecursion as Each}
 use Rattle.m5_terms.specs.TypeExpression.{TypeExpression, unit, function}
 use Rattle.m5_terms.specs.Primitives.{primitive_world, primitive_type}
@@ -70,9 +70,11 @@ abbrev pub asking_block : Primitive → TypeExpression → TypeExpression → Bl
 asking_block p A D = record { entry = by_call (only (primitive_world p)) A D; environment = []; code = flat.ends (ask p 1 2) }
 
 module _ (E : Setting) (B : Blocks) (functions : List ℕ) where
-  -- the label of a declared function, of which each has one, or of a primitive
+  -- the label of a declared function, of which each has one, or of a primitive. A function that is not declared, which only a way of
+  -- a test names that is never taken, has a label without a block
   abbrev pub IsFunction : ℕ → LeafForm → Type 0
-  IsFunction i (leaf_form.Glob f) = (slice_get functions f ≡ Some i) × (primitive_at B.primitives i ≡ None)
+  IsFunction i (leaf_form.Glob f) =
+      ((slice_get functions f ≡ Some i) ⊎ ((slice_get functions f ≡ None) × (slice_get B.table i ≡ None))) × (primitive_at B.primitives i ≡ None)
   IsFunction i (leaf_form.Extern p) =
       ((A : TypeExpression) × (D : TypeExpression) × (slice_get B.table i ≡ Some (asking_block p A D))) × (primitive_at B.primitives i ≡ Some p)
   IsFunction i f = ⊥
