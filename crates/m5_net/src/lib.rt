@@ -1,0 +1,4 @@
+//! The run of an object: turns of its sites over the board that they share.
+#![tactic(auto)]
+
+pub mod turn;
