@@ -36,6 +36,7 @@ use Rattle.m5_site.specs.Stops.{ComesTo}
 use Rattle.m5_site.proofs.OwnAsks.{query_own}
 use Rattle.m5_net.specs.Turning.{Net, IsGoing, IsAskTurned, IsAhead, MakesDeed, FindsNothing, IsTurned}
 use Rattle.m5_net.proofs.Replies.{act_as}
+use Rattle.m5_net.proofs.Standing.{goes_on_alike}
 use Rattle.m5_net.specs.declared.turn.Turned.{Turned}
 use Rattle.m5_net.specs.declared.turn.Turned.TheVariants as turned
 
@@ -198,7 +199,7 @@ module _ (O : Bundle) (n : Limits) (s : ℕ) (w : World) (N : Net O n) (old new 
             after = ap (λ (x : Board (List ℕ)). with_site s w y.state x N) (act.board ∙ ap (λ (x : Answered (List ℕ)). x.board) (same q));
           }),
         );
-        left = ahead;
+        left = (goes_on_alike O s w (N.site s w) to y.state wait r g c res ∙ i, ahead);
         entry = act.entry t;
         own = own_shown (is_sealed s) s w q r own;
       }

@@ -1,5 +1,5 @@
 -- What one turn of an object's site makes of a network.
-use Rattle.std.specs.Prelude.{◌≡◌, ◌≢◌, ℕ, List, [], ◌∷◌, ◌++◌, true, Option, Some, None}
+use Rattle.std.specs.Prelude.{◌≡◌, ◌≢◌, ℕ, List, [], ◌∷◌, ◌++◌, true, false, Option, Some, None}
 use Rattle.m5_terms.specs.Machine.{Comes}
 use Rattle.m5_terms.specs.declared.types.World.{World}
 use Rattle.m5_terms.specs.declared.ask.AnswerOf.TheVariants as answer
@@ -59,7 +59,7 @@ pub record IsAhead (O : Bundle) (s : ℕ) (w : World) (from : State) (x : Held) 
 -- gone where the network's has stopped, else ahead of it
 abbrev pub IsLeft : Bundle → ℕ → World → State → Option Held → Type 0
 IsLeft O s w y None = y.stopped ≡ true
-IsLeft O s w y (Some x) = IsAhead O s w y x
+IsLeft O s w y (Some x) = (y.stopped ≡ false) × IsAhead O s w y x
 
 -- the turn makes a deed, whose entry is added; a primitive is called at its own world
 pub record MakesDeed (O : Bundle) (n : Limits) (N : Net O n) (s : ℕ) (w : World) (old new : SharedBoard) (kept : Option Held) : Type 0 where
