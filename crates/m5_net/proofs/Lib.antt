@@ -1,3 +1,4 @@
 pub mod Replies
 pub mod Standing
 pub mod Turns
+pub mod ChangedSite

@@ -1,4 +1,5 @@
 //! The run of an object: turns of its sites over the board that they share.
 #![tactic(auto)]
 
+pub mod sites;
 pub mod turn;
