@@ -34,7 +34,7 @@ use Rattle.m5_site.specs.Sending.{has_bytes}
 use Rattle.m5_site.specs.Site.{Query, query, moved, moved_by, led, came, with_handler, with_bench, adds_handler, second_of, world_of, site_next, next_of, need_of}
 use Rattle.m5_site.specs.Stops.{ComesTo}
 use Rattle.m5_site.proofs.OwnAsks.{query_own}
-use Rattle.m5_net.specs.Turning.{Net, IsGoing, IsAskTurned, IsAhead, MakesDeed, FindsNothing, IsTurned}
+use Rattle.m5_net.specs.Turning.{Net, IsGoing, IsAskTurned, IsAhead, MakesDeed, FindsNothing, IsTurned, IsReadyTurned}
 use Rattle.m5_net.proofs.Replies.{act_as}
 use Rattle.m5_net.proofs.Standing.{goes_on_alike}
 use Rattle.m5_net.specs.declared.turn.Turned.{Turned}
@@ -343,3 +343,12 @@ wrong_waits (waits.Wrong label) l e = let same : needs.Wrong l ≡ needs.Wrong l
 
 pub looks_going : (wait : Wait) → wait ≡ waits.Take → IsGoing wait
 looks_going wait e = subst IsGoing (sym e) tt
+
+-- what an answer leaves is the same session's site at the same world
+pub ready_turned : (O : Bundle) (z : Held) (s : ℕ) (w : World) (old new : SharedBoard) (t : Turned) → z.session ≡ s → z.world ≡ w → IsAskTurned O z old new t → IsReadyTurned O s w t
+ready_turned O z s w old new (turned.Acts None) es ew k = absurd k
+ready_turned O z s w old new (turned.Acts (Some y)) es ew k =
+    let on = k.2 in
+    record { session = on.session ∙ es; world = on.world ∙ ew; of = on.of; computing = on.computing }
+ready_turned O z s w old new (turned.Rests y) es ew k = record { session = k.session ∙ es; world = k.world ∙ ew; of = k.of; computing = k.computing }
+ready_turned O z s w old new (turned.Wrong label) es ew k = absurd k

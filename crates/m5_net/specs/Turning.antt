@@ -22,6 +22,24 @@ use Rattle.m5_site.specs.Stops.{ComesTo}
 use Rattle.m5_net.specs.declared.turn.Turned.{Turned}
 use Rattle.m5_net.specs.declared.turn.Turned.TheVariants as turned
 
+-- the site of a session at a world, which computes
+pub record IsReadySite (O : Bundle) (s : ℕ) (w : World) (x : Held) : Type 0 where
+  pub session : x.session ≡ s
+  pub world : x.world ≡ w
+  pub of : IsSiteOf O x
+  pub computing : x.wait ≡ waits.Nothing
+
+-- if it is there still
+abbrev pub IsReadyLeft : Bundle → ℕ → World → Option Held → Type 0
+IsReadyLeft O s w None = Unit {0}
+IsReadyLeft O s w (Some x) = IsReadySite O s w x
+
+-- what a turn leaves
+abbrev pub IsReadyTurned : Bundle → ℕ → World → Turned → Type 0
+IsReadyTurned O s w (turned.Acts left) = IsReadyLeft O s w left
+IsReadyTurned O s w (turned.Rests x) = IsReadySite O s w x
+IsReadyTurned O s w (turned.Wrong label) = Unit {0}
+
 -- it waits for the answer to a call, a send or a look
 abbrev pub IsGoing : Wait → Type 0
 IsGoing (waits.Call p argument next) = Unit {0}

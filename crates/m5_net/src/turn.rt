@@ -7,7 +7,7 @@ ghost use Rattle.m5_site.specs.declared.state.Limits.{Limits};
 ghost use Rattle.m5_site.specs.declared.state.Wait.TheVariants as waits;
 ghost use Rattle.m5_site.specs.Held.{IsSiteOf};
 ghost use Rattle.m5_site.specs.Site.{query};
-ghost use Rattle.m5_net.specs.Turning.{Net, IsAhead, IsTurned, IsGoing, IsAskTurned};
+ghost use Rattle.m5_net.specs.Turning.{Net, IsAhead, IsReadyTurned, IsTurned, IsGoing, IsAskTurned};
 
 use m5_shared::shared::Shared;
 use m5_site::object::Object;
@@ -68,6 +68,7 @@ pub fn turn(
     requires of { IsSiteOf object.now site }
     requires computing { site.wait ≡ waits.Nothing }
     requires session { IsSession site.session shared.old.board.desks }
+    ensures ready { IfOk result (IsReadyTurned object.now site.session site.world) }
     ensures turned { (n : Limits) (N : Net object.now n) → (N.site site.session site.world).stopped ≡ false → board_of shared.old.board ≡ N.board → IsAhead object.now site.session site.world (N.site site.session site.world) site → IfOk result (IsTurned object.now n N site.session site.world shared.old shared.new) }
     ensures count { length shared.new.board.desks ≡ length shared.old.board.desks }
 {

@@ -1,6 +1,6 @@
 use Rattle.std.proofs.Common.{sym, ◌∙◌}
 use Rattle.m5_site.proofs.Computed.{if_ok}
-use Rattle.m5_net.proofs.Turns.{answer_turned, stop_turned, wrong_turned, asks_waits, look_waits, stop_waits, wrong_waits, looks_going}
+use Rattle.m5_net.proofs.Turns.{answer_turned, stop_turned, wrong_turned, asks_waits, look_waits, stop_waits, wrong_waits, looks_going, ready_turned}
 use Rattle.m5_net.proofs.turn.turn.Goals as goal
 
 pub returns-in_ok-ask-in-Ask-clause-turned : goal.returns-in_ok-ask-in-Ask-clause-turned
@@ -26,3 +26,13 @@ returns-in-Wrong-clause-turned c =
     let k = c.in_ok-compute.ensures in
     let z = c.compute.new.self in
     wrong_turned c.args.object.now c.args.site z c.args.shared.now c.args.shared.now c.in-Wrong.label (wrong_waits z.wait c.in-Wrong.label (sym c.in-Wrong.is ∙ k.need)) k.comes
+
+pub returns-in_ok-ask-in-Ask-clause-ready : goal.returns-in_ok-ask-in-Ask-clause-ready
+returns-in_ok-ask-in-Ask-clause-ready c =
+    let k = c.in_ok-compute.ensures in
+    if_ok _ _ c.answer_turn.result (λ t h. ready_turned c.args.object.now c.compute.new.self c.args.site.session c.args.site.world c.args.shared.now c.answer_turn.new.shared t k.session k.world h) c.answer_turn.ensures.turned
+
+pub returns-in-Take-clause-ready : goal.returns-in-Take-clause-ready
+returns-in-Take-clause-ready c =
+    let k = c.in_ok-compute.ensures in
+    if_ok _ _ c.answer_turn-in-Take.result (λ t h. ready_turned c.args.object.now c.compute.new.self c.args.site.session c.args.site.world c.args.shared.now c.answer_turn-in-Take.new.shared t k.session k.world h) c.answer_turn-in-Take.ensures.turned
