@@ -2,3 +2,4 @@ pub mod Replies
 pub mod Standing
 pub mod Turns
 pub mod ChangedSite
+pub mod TakenTurns
