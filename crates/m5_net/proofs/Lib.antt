@@ -3,3 +3,4 @@ pub mod Standing
 pub mod Turns
 pub mod ChangedSite
 pub mod TakenTurns
+pub mod TurnLists

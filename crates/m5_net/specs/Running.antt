@@ -8,7 +8,7 @@ use Rattle.m5_script.specs.declared.items.SiteName.{SiteName}
 use Rattle.m5_network.specs.Claim.{IsAtItsWorld, primitive_of}
 use Rattle.m5_network.specs.Entries.{Deed, entry_of}
 use Rattle.m5_network.specs.Kinds.{IsAmong}
-use Rattle.m5_network.specs.Plain.{TurnOf}
+use Rattle.m5_network.specs.Plain.{TurnOf, Turns, joined}
 use Rattle.m5_board.specs.Boards.{board_of}
 use Rattle.m5_shared.specs.Shared.{is_sealed}
 use Rattle.m5_site.specs.declared.state.Limits.{Limits}
@@ -64,3 +64,23 @@ pub record TakesTurn (O : Bundle) (n : Limits) (count : ℕ) (N : Net O n) (x : 
 abbrev pub TurnEnds : (O : Bundle) (n : Limits) → ℕ → Net O n → SiteName → Running → Running → Going → Type 0
 TurnEnds O n count N x old new going.On = TakesTurn O n count N x old new
 TurnEnds O n count N x old new (going.Wrong label) = IsStuck O x.session x.world (N.site x.session x.world) label
+
+-- one turn of each site
+pub record TakesTurns (O : Bundle) (n : Limits) (count : ℕ) (N : Net O n) (xs : List SiteName) (old new : Running) : Type 0 where
+  pub deeds : List (List (Deed (List ℕ)))
+  pub after : Net O n
+  pub turns : Turns (TurnOf (object_kind O n)) N xs deeds after
+  pub made : Made O n count old new (joined deeds) after
+
+-- turns of these sites lead to a network in which the meaning of one of them goes wrong at the block of a label
+pub record Strands (O : Bundle) (n : Limits) (count : ℕ) (N : Net O n) (old : Running) (label : ℕ) : Type 0 where
+  pub xs : List SiteName
+  pub between : Running
+  pub turns : TakesTurns O n count N xs old between
+  pub name : SiteName
+  pub site : IsAmong count name.session name.world
+  pub stuck : IsStuck O name.session name.world (turns.after.site name.session name.world) label
+
+abbrev pub TurnsEnd : (O : Bundle) (n : Limits) → ℕ → Net O n → List SiteName → Running → Running → Going → Type 0
+TurnsEnd O n count N xs old new going.On = TakesTurns O n count N xs old new
+TurnsEnd O n count N xs old new (going.Wrong label) = Strands O n count N old label

@@ -1,10 +1,10 @@
 //! A run on its way, and one turn of one of its sites.
 
-ghost use Rattle.std.specs.Prelude.{ℕ, length, IfOk};
+ghost use Rattle.std.specs.Prelude.{ℕ, length, All, IfOk};
 ghost use Rattle.m5_network.specs.Kinds.{IsAmong};
 ghost use Rattle.m5_site.specs.declared.state.Limits.{Limits};
 ghost use Rattle.m5_net.specs.Turning.{Net};
-ghost use Rattle.m5_net.specs.Running.{StandsFor, IsReady, IsNamed, StaysReady, TurnEnds};
+ghost use Rattle.m5_net.specs.Running.{StandsFor, IsReady, IsNamed, StaysReady, TurnEnds, TurnsEnd};
 
 use crate::sites::{SessionSites, put_site, take_site};
 use crate::turn::{Turned, turn};
@@ -53,4 +53,25 @@ pub fn take_turn(
         }
         Turned::Wrong(label) => Ok(Going::Wrong(label)),
     }
+}
+
+/// One turn of each site, in their order.
+pub fn take_turns(
+    alloc: Global,
+    object: &Object,
+    running: &mut Running,
+    names: &[SiteName],
+) -> Result<Going, AllocError>
+    requires ready { IsReady object.now running.old }
+    requires names { All (IsNamed (length running.old.sites.items)) names.now }
+    ensures turned { (n : Limits) (count : ℕ) (N : Net object.now n) → StandsFor object.now n count running.old N → All (λ (x : SiteName). IsAmong count x.session x.world) names.now → IfOk result (TurnsEnd object.now n count N names.now running.old running.new) }
+    ensures ready { IfOk result (λ g. StaysReady object.now running.old running.new) }
+{
+    'turns: for name in names {
+        match take_turn(alloc, object, running, *name)? {
+            Going::On => {}
+            Going::Wrong(label) => return Ok(Going::Wrong(label)),
+        }
+    }
+    Ok(Going::On)
 }
