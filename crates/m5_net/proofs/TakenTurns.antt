@@ -1,7 +1,6 @@
 -- What one turn makes of a run on its way.
-use Rattle.std.proofs.Common.{◌≡◌, ℕ, ◌++◌, true, false, List, [], ◌∷◌, length, map, Option, Some, None, inl, inr, refl, sym, ap, subst, ◌∙◌, append-nil}
+use Rattle.std.proofs.Common.{◌≡◌, ℕ, ◌++◌, true, false, List, [], ◌∷◌, length, Option, Some, None, inl, inr, refl, sym, ap, subst, ◌∙◌, append-nil}
 use Rattle.m5_terms.specs.declared.types.World.{World}
-use Rattle.m5_terms.specs.declared.ask.Entry.{Entry}
 use Rattle.m5_script.specs.declared.items.SiteName.{SiteName}
 use Rattle.m5_network.specs.Entries.{Deed, entry_of}
 use Rattle.m5_network.specs.Claim.{IsAtItsWorld, primitive_of}
@@ -10,13 +9,13 @@ use Rattle.m5_network.specs.Plain.{TurnOf}
 use Rattle.m5_network.proofs.Places.{at-place}
 use Rattle.m5_board.specs.Boards.{board_of}
 use Rattle.m5_shared.specs.Shared.{SharedBoard, is_sealed}
-use Rattle.m5_sites.proofs.SiteMaps.{all-at, stays-at, put-back}
+use Rattle.m5_sites.proofs.SiteMaps.{stays-at, put-back}
 use Rattle.m5_site.specs.declared.state.State.{State}
 use Rattle.m5_site.specs.declared.state.Limits.{Limits}
 use Rattle.m5_site.specs.Held.{Held}
 use Rattle.m5_site.specs.Kind.{object_kind}
 use Rattle.m5_site.specs.Object.{Bundle}
-use Rattle.m5_net.specs.Running.{StandsFor, IsReady, StaysReady, TakesTurn, Made, IsOwnDeed, shows}
+use Rattle.m5_net.specs.Running.{StandsFor, IsReady, StaysReady, TakesTurn, IsOwnDeed}
 use Rattle.m5_net.specs.Sites.{site_at, with_site_at}
 use Rattle.m5_net.specs.Turning.{Net, IsAhead, IsLeft, IsReadySite, IsReadyLeft, IsReadyTurned, IsTurned, MakesDeed, FindsNothing}
 use Rattle.m5_net.specs.declared.running.Running.{Running}

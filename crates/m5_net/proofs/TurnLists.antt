@@ -2,6 +2,7 @@
 use Rattle.std.proofs.Common.{◌≡◌, ℕ, ◌+◌, ◌<◌, List, [], ◌∷◌, ◌++◌, length, map, get_or, take, All, refl, sym, ap, subst, ◌∙◌, append_assoc, append-nil}
 use Rattle.std.specs.List.{AllByRecursion as Each}
 use Rattle.std.proofs.lemmas.List.{map-append, take_more}
+use Rattle.std.proofs.lemmas.List.Elements.{All-take}
 use Rattle.m5_terms.specs.declared.ask.Entry.{Entry}
 use Rattle.m5_script.specs.declared.items.SiteName.{SiteName}
 use Rattle.m5_network.specs.Entries.{Deed}
@@ -61,5 +62,16 @@ one_more O n count N xs x old mid new h k = record {
 pub next_turn : (O : Bundle) (n : Limits) (count : ℕ) (N : Net O n) (xs : List SiteName) (i : ℕ) (d : SiteName) (old mid new : Running) → i < length xs → (h : TakesTurns O n count N (take i xs) old mid) → TakesTurn O n count h.after (get_or xs i d) mid new → TakesTurns O n count N (take (i + 1) xs) old new
 next_turn O n count N xs i d old mid new l h k = subst (λ (ys : List SiteName). TakesTurns O n count N ys old new) (sym (take_more xs i d l)) (one_more O n count N (take i xs) (get_or xs i d) old mid new h k)
 
-pub stuck_there : (O : Bundle) (n : Limits) (count : ℕ) (N : Net O n) (xs : List SiteName) (x : SiteName) (old mid : Running) (label : ℕ) → IsAmong count x.session x.world → (h : TakesTurns O n count N xs old mid) → IsStuck O x.session x.world (h.after.site x.session x.world) label → Strands O n count N old label
-stuck_there O n count N xs x old mid label s h k = record { xs = xs; between = mid; turns = h; name = x; site = s; stuck = k }
+abbrev AreSites : ℕ → List SiteName → Type 0
+AreSites count xs = All (λ (x : SiteName). IsAmong count x.session x.world) xs
+
+pub stuck_there : (O : Bundle) (n : Limits) (count : ℕ) (N : Net O n) (xs : List SiteName) (i : ℕ) (x : SiteName) (old mid : Running) (label : ℕ) → AreSites count xs → IsAmong count x.session x.world → (h : TakesTurns O n count N (take i xs) old mid) → IsStuck O x.session x.world (h.after.site x.session x.world) label → Strands O n count N old label
+stuck_there O n count N xs i x old mid label a s h k = record {
+  xs = take i xs;
+  names = All-take (λ (y : SiteName). IsAmong count y.session y.world) i xs a;
+  between = mid;
+  turns = h;
+  name = x;
+  site = s;
+  stuck = k;
+}

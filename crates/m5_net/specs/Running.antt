@@ -1,5 +1,5 @@
 -- A run on its way, as the code holds it, beside the network that it stands for; and what a turn makes of both.
-use Rattle.std.specs.Prelude.{◌≡◌, ℕ, ◌≤◌, List, ◌++◌, length, map}
+use Rattle.std.specs.Prelude.{◌≡◌, ℕ, ◌≤◌, List, ◌++◌, length, map, All}
 use Rattle.std.specs.List.{AllByRecursion as Each}
 use Rattle.m5_terms.specs.declared.types.World.{World}
 use Rattle.m5_terms.specs.declared.ask.Entry.{Entry}
@@ -75,6 +75,7 @@ pub record TakesTurns (O : Bundle) (n : Limits) (count : ℕ) (N : Net O n) (xs 
 -- turns of these sites lead to a network in which the meaning of one of them goes wrong at the block of a label
 pub record Strands (O : Bundle) (n : Limits) (count : ℕ) (N : Net O n) (old : Running) (label : ℕ) : Type 0 where
   pub xs : List SiteName
+  pub names : All (λ (x : SiteName). IsAmong count x.session x.world) xs
   pub between : Running
   pub turns : TakesTurns O n count N xs old between
   pub name : SiteName

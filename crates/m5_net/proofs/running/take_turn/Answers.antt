@@ -1,6 +1,5 @@
 use Rattle.std.proofs.Common.{◌≡◌, ◌∙◌, Some, None, refl, sym}
 use Rattle.m5_net.specs.Sites.{site_at}
-use Rattle.m5_net.specs.declared.running.Running.{Running}
 use Rattle.m5_net.specs.Turning.{IsReadySite}
 use Rattle.m5_net.proofs.TakenTurns.{by_name, ready_by_name, taken_ready, taken_ahead, skips, acts, rests, ready_after, ready_back}
 use Rattle.m5_net.proofs.running.take_turn.Goals as goal
