@@ -1,5 +1,5 @@
 -- When a look finds nothing, and what an act makes of what is shared.
-use Rattle.std.proofs.Common.{◌≡◌, ◌≢◌, ◌↔◌, ℕ, zero, suc, List, [], ◌∷◌, ◌++◌, refl, sym, ap, subst, ◌∙◌, Option, Some, None}
+use Rattle.std.proofs.Common.{◌≡◌, ◌↔◌, ℕ, List, [], ◌∷◌, ◌++◌, refl, sym, ap, subst, ◌∙◌, Option, Some, None}
 use Rattle.std.specs.List.{AllByRecursion as Each}
 use Rattle.m5_terms.specs.Worlds.{site_worlds}
 use Rattle.m5_terms.specs.declared.types.World.{World}
@@ -9,13 +9,12 @@ use Rattle.m5_terms.specs.declared.ask.AskOf.{AskOf}
 use Rattle.m5_terms.specs.declared.ask.AskOf.TheVariants as ask
 use Rattle.m5_terms.specs.declared.ask.AnswerOf.{AnswerOf}
 use Rattle.m5_terms.specs.declared.ask.AnswerOf.TheVariants as answer
-use Rattle.m5_terms.specs.declared.ask.Entry.{Entry}
 use Rattle.m5_network.specs.Board.{Board, Desk, Event, Trigger, Answered, answer_of, link, take_at, take_from, take_other, take_event, take_trigger, text_at, text_or_empty, text_or_missing}
 use Rattle.m5_network.specs.Entries.{shown}
 use Rattle.m5_board.specs.Boards.{board_of}
 use Rattle.m5_board.specs.Answers.{IsAnswered}
 use Rattle.m5_board.specs.declared.board.Answered.{Answered as BoardAnswered}
-use Rattle.m5_shared.specs.Shared.{SharedBoard, is_sealed, HasNothing, FindsNothing, IsAct, entry_for}
+use Rattle.m5_shared.specs.Shared.{SharedBoard, is_sealed, FindsNothing, IsAct}
 
 module _ (b : Board (List ℕ)) (s : ℕ) where
   abbrev Told : Answered (List ℕ) → Type 0

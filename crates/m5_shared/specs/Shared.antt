@@ -11,9 +11,9 @@ use Rattle.m5_terms.specs.declared.ask.AnswerOf.{AnswerOf}
 use Rattle.m5_terms.specs.declared.ask.AnswerOf.TheVariants as answer
 use Rattle.m5_terms.specs.declared.ask.Entry.{Entry}
 use Rattle.m5_terms.specs.declared.ask.History.{History}
-use Rattle.m5_network.specs.Board.{Board, Desk, Answered, answer_of, link}
+use Rattle.m5_network.specs.Board.{Board, Desk, answer_of, link}
 use Rattle.m5_network.specs.Claim.{ending, stop_count}
-use Rattle.m5_network.specs.Entries.{Deed, entry_of}
+use Rattle.m5_network.specs.Entries.{entry_of}
 use Rattle.m5_board.specs.Boards.{BoardLists, board_of}
 
 -- the board, and the entries of what it answered so far

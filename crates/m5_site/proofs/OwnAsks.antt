@@ -1,11 +1,10 @@
 -- A site asks for its own world alone.
-use Rattle.std.proofs.Common.{◌≡◌, ◌≢◌, ℕ, zero, suc, ◌==◌, ◌<◌, ◌≤◌, arith, nat_le, nat_lt, List, [], ◌∷◌, ◌++◌, length, refl, sym, ap, subst, ◌∙◌, Option, Some, None, Bool, true, false, not, ◌&&◌, ◌||◌, cond, is_some, IsTrue, nat_eq, slice_get}
+use Rattle.std.proofs.Common.{◌≡◌, ◌≢◌, ℕ, zero, suc, ◌==◌, ◌<◌, ◌≤◌, arith, nat_le, nat_lt, List, [], ◌∷◌, ◌++◌, length, refl, sym, subst, Option, Some, None, Bool, true, false, not, cond, is_some, IsTrue, nat_eq}
 use Rattle.std.specs.List.{AllByRecursion as Each, list_all, starts_with}
-use Rattle.std.proofs.lemmas.Bool.{eqb-true, eqb-false, leb-true, leb-false, eq-eqb, not-true, both_ways, and_parts}
+use Rattle.std.proofs.lemmas.Bool.{eqb-true, eqb-false, leb-true, eq-eqb, not-true, both_ways, and_parts}
 use Rattle.m5_region.specs.declared.value.Value.{Value}
 use Rattle.m5_region.specs.declared.limits.TheConstants.{MOST_ITEMS}
 use Rattle.m5_region.specs.declared.queue.Ready.{Ready}
-use Rattle.m5_region.specs.declared.bench.Bench.{Bench}
 use Rattle.m5_region.specs.declared.out.Out.{Out}
 use Rattle.m5_region.specs.declared.out.Out.TheVariants as out
 use Rattle.m5_region.specs.Region.{Object}
@@ -15,16 +14,11 @@ use Rattle.m5_machine.specs.Blocks.{Flat}
 use Rattle.m5_machine.specs.Primitive.{two_parts}
 use Rattle.m5_machine.specs.Run.{run}
 use Rattle.m5_terms.specs.Worlds.{IsSiteWorld}
-use Rattle.m5_terms.specs.Primitives.{primitive_world}
 use Rattle.m5_terms.specs.Seal.{seal_bytes}
 use Rattle.m5_terms.specs.declared.types.World.{World}
 use Rattle.m5_terms.specs.declared.types.World.TheVariants.{Home, Server, Panel, Any}
-use Rattle.m5_terms.specs.declared.types.Primitive.{Primitive}
-use Rattle.m5_terms.specs.declared.types.Primitive.TheVariants as primitive
 use Rattle.m5_terms.specs.declared.ask.Cause.{Cause}
 use Rattle.m5_terms.specs.declared.ask.Cause.TheVariants.{Table}
-use Rattle.m5_terms.specs.declared.ask.AskOf.TheVariants as ask
-use Rattle.m5_dictionary.specs.Dictionaries.{code_of_world}
 use Rattle.m5_bytecode.specs.Server.{server_step}
 use Rattle.m5_js.specs.Page.{page_step}
 use Rattle.m5_message.specs.Packing.{Sending, message_of, sent_from}
@@ -32,10 +26,10 @@ use Rattle.m5_message.specs.Spelling.{body_bytes}
 use Rattle.m5_site.specs.declared.state.State.{State}
 use Rattle.m5_site.specs.declared.state.Wait.{Wait}
 use Rattle.m5_site.specs.declared.state.Wait.TheVariants as waits
-use Rattle.m5_site.specs.Object.{Bundle, IsObject, IsCodeAt, code_of, is_asked_at, is_step_at}
+use Rattle.m5_site.specs.Object.{Bundle, IsObject, code_of, is_asked_at, is_step_at}
 use Rattle.m5_site.specs.Sending.{sendable_of, has_bytes, stands_where}
-use Rattle.m5_site.specs.Site.{Query, called, query, sent_bytes, moved, moved_by, led, came, calls, sends, with_handler, with_bench, adds_handler, second_of, world_of, IsAsked}
-use Rattle.m5_site.specs.Own.{IsOther, IsSentFrom, IsOwnAsk, IsOwnWait}
+use Rattle.m5_site.specs.Site.{Query, called, query, sent_bytes, moved, moved_by, led, came, with_handler, with_bench, adds_handler, second_of, world_of}
+use Rattle.m5_site.specs.Own.{IsOther, IsOwnAsk, IsOwnWait}
 use Rattle.m5_site.specs.code.Sound.{WaitFits}
 use Rattle.m5_site.proofs.OwnRuns.{StepAsks, OutAsks, run_asks}
 

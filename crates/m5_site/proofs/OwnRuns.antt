@@ -1,12 +1,11 @@
 -- What a run asks is what the steps of its code ask.
-use Rattle.std.proofs.Common.{◌≡◌, ℕ, zero, suc, List, [], ◌∷◌, drop, refl, ap, subst, Option, Some, None, Bool, true, false, ◌&&◌, cond, slice_get}
+use Rattle.std.proofs.Common.{ℕ, zero, suc, List, [], ◌∷◌, drop, Option, Some, None, Bool, true, false, ◌&&◌, cond, slice_get}
 use Rattle.std.specs.List.{AllByRecursion as Each}
 use Rattle.m5_region.specs.declared.value.Value.{Value}
 use Rattle.m5_region.specs.declared.queue.Ready.{Ready}
 use Rattle.m5_region.specs.declared.bench.Bench.{Bench}
 use Rattle.m5_region.specs.declared.out.Out.{Out}
 use Rattle.m5_region.specs.declared.out.Out.TheVariants as out
-use Rattle.m5_region.specs.Region.{Object}
 use Rattle.m5_machine.specs.declared.step.Step.{Step}
 use Rattle.m5_machine.specs.declared.step.Step.TheVariants as steps
 use Rattle.m5_machine.specs.declared.made.Made.{Made}
@@ -20,7 +19,7 @@ use Rattle.m5_machine.specs.Operand.{bool_in}
 use Rattle.m5_machine.specs.Primitive.{takes}
 use Rattle.m5_machine.specs.Closure.{entry, is_closure}
 use Rattle.m5_machine.specs.Table.{made}
-use Rattle.m5_machine.specs.Block.{run_body, and_then, filling, fill_with, choice, of_values, of_slots, asking}
+use Rattle.m5_machine.specs.Block.{run_body, and_then, fill_with, choice, of_values, asking}
 use Rattle.m5_machine.specs.Run.{run, run_from, run_block, run_entered, run_threads, going, next_block, entering, ending}
 
 -- P holds of the primitives that are called, and Q of the worlds to which threads are sent

@@ -1,5 +1,5 @@
 -- What a site asks for its own world.
-use Rattle.std.specs.Prelude.{◌≡◌, ◌≢◌, ℕ, nat_eq, IsTrue, Option, Some, None}
+use Rattle.std.specs.Prelude.{◌≢◌, ℕ, nat_eq, IsTrue, Option, Some, None}
 use Rattle.std.specs.List.{starts_with}
 use Rattle.m5_terms.specs.Seal.{seal_bytes}
 use Rattle.m5_terms.specs.Worlds.{IsSiteWorld}
