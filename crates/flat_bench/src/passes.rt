@@ -11,11 +11,13 @@ use std::io;
 /// How many blocks of a slice stand at its world: those of other labels begin at its last step.
 fn standing(flat: &Flat) -> usize {
     let end = flat.table().count().saturating_sub(1);
-    flat.table()
-        .labels()
-        .iter()
-        .filter(|label| label.place != end)
-        .count()
+    let mut blocks: usize = 0;
+    for label in flat.table().labels() {
+        if label.place != end {
+            blocks = blocks.saturating_add(1);
+        }
+    }
+    blocks
 }
 
 /// Writes how many type lines, labels and blocks there are.
