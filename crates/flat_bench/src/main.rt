@@ -6,6 +6,8 @@
 //! name, the number of labels and that of the nanoseconds.
 #![tactic(auto)]
 
+ghost use Rattle.std.specs.Prelude.{◌≤◌};
+
 mod chains;
 mod passes;
 mod times;

@@ -1,5 +1,7 @@
 //! The passes over a program of chains, one after the other.
 
+ghost use Rattle.std.specs.Prelude.{◌≤◌};
+
 use crate::chains;
 use m5_dict::dictionaries::dictionaries;
 use m5_dictionary::dicts::Dicts;

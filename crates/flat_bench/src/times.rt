@@ -1,5 +1,7 @@
 //! How long the passes take.
 
+ghost use Rattle.std.specs.Prelude.{◌≤◌};
+
 use crate::chains;
 use crate::passes::write;
 use m5_dict::dictionaries::dictionaries;
