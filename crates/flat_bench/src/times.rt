@@ -1,12 +1,16 @@
 //! How long the passes take.
 
-ghost use Rattle.std.specs.Prelude.{◌≤◌};
+ghost use Rattle.std.specs.Prelude.{◌≤◌, IfOk, IfSome};
+ghost use Rattle.m5_flat.specs.Table.{blocks_of};
+ghost use Rattle.m5_dict.specs.Dictionaries.{AreDictionariesOf};
 
 use crate::chains;
 use crate::passes::write;
 use m5_dict::dictionaries::dictionaries;
+use m5_dictionary::dicts::Dicts;
+use m5_flat::program::Flat;
 use m5_hoist::hoist::hoist;
-use m5_slice::slices::slice;
+use m5_slice::slices::{Slices, slice};
 use std::io;
 use std::time::Instant;
 
@@ -23,30 +27,68 @@ fn sweep(words: &mut [u64]) {
     }
 }
 
-/// Makes each pass once on a program of so many labels.
-fn once(rt: &HostRuntime, words: &mut [u64], labels: usize, is_last: bool) -> io::Result<()>
+/// Writes how long a pass took.
+fn say(rt: &HostRuntime, pass: &str, labels: usize, start: Instant) -> io::Result<()> {
+    let time = start.elapsed(rt)?.as_nanos();
+    eprintln!(rt; "{pass} {labels} {time}")
+}
+
+/// A program of so many labels, hoisted, if it has few enough.
+fn hoisted(rt: &HostRuntime, words: &mut [u64], labels: usize) -> io::Result<Option<Flat>>
     requires { 8 ≤ labels }
 {
     let closed = chains::closed(rt.alloc(), labels)?;
     sweep(words);
     let start = Instant::now(rt)?;
-    let Ok(flat) = hoist(rt.alloc(), &closed) else {
-        return println!(rt; "{labels} labels: not hoisted");
-    };
-    let time = start.elapsed(rt)?.as_nanos();
-    eprintln!(rt; "hoist {labels} {time}")?;
+    let flat = hoist(rt.alloc(), &closed).ok();
+    say(rt, "hoist", labels, start)?;
+    Ok(flat)
+}
+
+/// The dictionaries of a flat program, if there is memory for them.
+fn named(
+    rt: &HostRuntime,
+    words: &mut [u64],
+    labels: usize,
+    flat: &Flat,
+) -> io::Result<Option<Dicts>>
+    ensures { IfOk result (λ o. IfSome o (λ d. AreDictionariesOf (blocks_of flat.now) d)) }
+{
     sweep(words);
     let start = Instant::now(rt)?;
-    let Ok(dicts) = dictionaries(rt.alloc(), &flat) else {
-        return println!(rt; "{labels} labels: no dictionaries");
-    };
-    let time = start.elapsed(rt)?.as_nanos();
-    eprintln!(rt; "dictionaries {labels} {time}")?;
+    let dicts = dictionaries(rt.alloc(), flat).ok();
+    say(rt, "dictionaries", labels, start)?;
+    Ok(dicts)
+}
+
+/// The slices of a flat program.
+fn sliced(
+    rt: &HostRuntime,
+    words: &mut [u64],
+    labels: usize,
+    flat: &Flat,
+    dicts: &Dicts,
+) -> io::Result<Slices>
+    requires { AreDictionariesOf (blocks_of flat.now) dicts.now }
+{
     sweep(words);
     let start = Instant::now(rt)?;
-    let slices = slice(rt.alloc(), &flat, &dicts)?;
-    let time = start.elapsed(rt)?.as_nanos();
-    eprintln!(rt; "slice {labels} {time}")?;
+    let slices = slice(rt.alloc(), flat, dicts)?;
+    say(rt, "slice", labels, start)?;
+    Ok(slices)
+}
+
+/// Makes each pass once on a program of so many labels.
+fn once(rt: &HostRuntime, words: &mut [u64], labels: usize, is_last: bool) -> io::Result<()>
+    requires { 8 ≤ labels }
+{
+    let Some(flat) = hoisted(rt, words, labels)? else {
+        return Ok(());
+    };
+    let Some(dicts) = named(rt, words, labels, &flat)? else {
+        return Ok(());
+    };
+    let slices = sliced(rt, words, labels, &flat, &dicts)?;
     if is_last {
         write(rt, &dicts, &slices)?;
     }

@@ -1,4 +1,0 @@
-use Rattle.flat_bench.proofs.times.once.Goals as goal
-
-pub slice-requires : goal.slice-requires
-slice-requires c = c.in-Ok-dictionaries.ensures
