@@ -303,9 +303,9 @@ stop_turned O x z old new c r s w es ew e act = λ h n N i b a.
     (subst (λ (v : Wait). ComesTo O x.session x.world (N.site x.session x.world) v z.state) e (comes_to O x.session x.world a.steps (N.site x.session x.world) x.state z.state z.wait a.comes h))
     (act_as x.session s x.world w (ask.Stop c) (ask.Stop c) old new r es ew refl act)
 
-pub wrong_turned : (O : Bundle) (x z : Held) (old new : SharedBoard) (label : ℕ) → z.wait ≡ waits.Wrong label → Whole O x z old new (turned.Wrong label) x.session x.world
-wrong_turned O x z old new label e = λ h n N i b a.
-    (z.state, subst (λ (v : Wait). ComesTo O x.session x.world (N.site x.session x.world) v z.state) e (comes_to O x.session x.world a.steps (N.site x.session x.world) x.state z.state z.wait a.comes h))
+pub wrong_turned : (O : Bundle) (x z : Held) (old new : SharedBoard) (label : ℕ) → new.entries ≡ old.entries → z.wait ≡ waits.Wrong label → Whole O x z old new (turned.Wrong label) x.session x.world
+wrong_turned O x z old new label kept e = λ h n N i b a.
+    (kept, (z.state, subst (λ (v : Wait). ComesTo O x.session x.world (N.site x.session x.world) v z.state) e (comes_to O x.session x.world a.steps (N.site x.session x.world) x.state z.state z.wait a.comes h)))
 
 -- what a need says of what is waited for
 

@@ -1,3 +1,4 @@
 pub mod Turning
 pub mod Sites
+pub mod UpTo
 pub mod Running

@@ -1,5 +1,5 @@
 -- A run on its way, as the code holds it, beside the network that it stands for; and what a turn makes of both.
-use Rattle.std.specs.Prelude.{◌≡◌, ℕ, ◌≤◌, List, ◌++◌, length, map, All}
+use Rattle.std.specs.Prelude.{◌≡◌, ℕ, ◌≤◌, List, [], ◌++◌, length, map}
 use Rattle.std.specs.List.{AllByRecursion as Each}
 use Rattle.m5_terms.specs.declared.types.World.{World}
 use Rattle.m5_terms.specs.declared.ask.Entry.{Entry}
@@ -8,13 +8,14 @@ use Rattle.m5_script.specs.declared.items.SiteName.{SiteName}
 use Rattle.m5_network.specs.Claim.{IsAtItsWorld, primitive_of}
 use Rattle.m5_network.specs.Entries.{Deed, entry_of}
 use Rattle.m5_network.specs.Kinds.{IsAmong}
-use Rattle.m5_network.specs.Plain.{TurnOf, Turns, joined}
+use Rattle.m5_network.specs.Plain.{TurnOf, Turns, Rounds, joined}
 use Rattle.m5_board.specs.Boards.{board_of}
 use Rattle.m5_shared.specs.Shared.{is_sealed}
 use Rattle.m5_site.specs.declared.state.Limits.{Limits}
 use Rattle.m5_site.specs.Kind.{object_kind}
 use Rattle.m5_site.specs.Object.{Bundle}
 use Rattle.m5_net.specs.Sites.{site_at}
+use Rattle.m5_net.specs.UpTo.{TurnsUpTo, RoundsUpTo}
 use Rattle.m5_net.specs.Turning.{Net, IsLeft, IsReadyLeft, IsStuck}
 use Rattle.m5_net.specs.declared.running.Going.{Going}
 use Rattle.m5_net.specs.declared.running.Going.TheVariants as going
@@ -61,9 +62,10 @@ pub record TakesTurn (O : Bundle) (n : Limits) (count : ℕ) (N : Net O n) (x : 
   pub turn : TurnOf (object_kind O n) N x deeds after
   pub made : Made O n count old new deeds after
 
+-- the meaning of this site goes wrong at its turn, and the history stays
 abbrev pub TurnEnds : (O : Bundle) (n : Limits) → ℕ → Net O n → SiteName → Running → Running → Going → Type 0
 TurnEnds O n count N x old new going.On = TakesTurn O n count N x old new
-TurnEnds O n count N x old new (going.Wrong label) = IsStuck O x.session x.world (N.site x.session x.world) label
+TurnEnds O n count N x old new (going.Wrong site label) = (site ≡ x) × (new.shared.entries ≡ old.shared.entries) × IsStuck O x.session x.world (N.site x.session x.world) label
 
 -- one turn of each site
 pub record TakesTurns (O : Bundle) (n : Limits) (count : ℕ) (N : Net O n) (xs : List SiteName) (old new : Running) : Type 0 where
@@ -72,16 +74,36 @@ pub record TakesTurns (O : Bundle) (n : Limits) (count : ℕ) (N : Net O n) (xs 
   pub turns : Turns (TurnOf (object_kind O n)) N xs deeds after
   pub made : Made O n count old new (joined deeds) after
 
--- turns of these sites lead to a network in which the meaning of one of them goes wrong at the block of a label
-pub record Strands (O : Bundle) (n : Limits) (count : ℕ) (N : Net O n) (old : Running) (label : ℕ) : Type 0 where
-  pub xs : List SiteName
-  pub names : All (λ (x : SiteName). IsAmong count x.session x.world) xs
-  pub between : Running
-  pub turns : TakesTurns O n count N xs old between
-  pub name : SiteName
-  pub site : IsAmong count name.session name.world
-  pub stuck : IsStuck O name.session name.world (turns.after.site name.session name.world) label
+-- rounds that make deeds
+pub record TakesRounds (O : Bundle) (n : Limits) (count : ℕ) (N : Net O n) (xs : List SiteName) (old new : Running) : Type 0 where
+  pub rounds : List (List (List (Deed (List ℕ))))
+  pub after : Net O n
+  pub going : Rounds (TurnOf (object_kind O n)) xs N rounds after
+  pub made : Made O n count old new (joined (map joined rounds)) after
+
+-- rounds that make deeds, and one that makes none
+pub record Settles (O : Bundle) (n : Limits) (count : ℕ) (N : Net O n) (xs : List SiteName) (old new : Running) : Type 0 where
+  pub rounds : List (List (List (Deed (List ℕ))))
+  pub settled : Net O n
+  pub going : Rounds (TurnOf (object_kind O n)) xs N rounds settled
+  pub silent : List (List (Deed (List ℕ)))
+  pub after : Net O n
+  pub last : Turns (TurnOf (object_kind O n)) settled xs silent after
+  pub found_nothing : joined silent ≡ []
+  pub made : Made O n count old new (joined (map joined rounds)) after
+
+-- the deeds lead up to a turn of this site, whose meaning goes wrong there at the block of a label; the entries show them
+pub record Strands (O : Bundle) (n : Limits) (up_to : List (Deed (List ℕ)) → Net O n → Type 0) (old new : Running) (x : SiteName) (label : ℕ) : Type 0 where
+  pub deeds : List (Deed (List ℕ))
+  pub at : Net O n
+  pub way : up_to deeds at
+  pub entries : new.shared.entries ≡ old.shared.entries ++ map shows deeds
+  pub stuck : IsStuck O x.session x.world (at.site x.session x.world) label
 
 abbrev pub TurnsEnd : (O : Bundle) (n : Limits) → ℕ → Net O n → List SiteName → Running → Running → Going → Type 0
 TurnsEnd O n count N xs old new going.On = TakesTurns O n count N xs old new
-TurnsEnd O n count N xs old new (going.Wrong label) = Strands O n count N old label
+TurnsEnd O n count N xs old new (going.Wrong x label) = Strands O n (TurnsUpTo (TurnOf (object_kind O n)) xs N x) old new x label
+
+abbrev pub RoundsEnd : (O : Bundle) (n : Limits) → ℕ → Net O n → List SiteName → Running → Running → Going → Type 0
+RoundsEnd O n count N xs old new going.On = Settles O n count N xs old new
+RoundsEnd O n count N xs old new (going.Wrong x label) = Strands O n (RoundsUpTo (TurnOf (object_kind O n)) xs N x) old new x label

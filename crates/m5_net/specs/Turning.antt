@@ -102,4 +102,4 @@ IsStuck O s w from label = (to : State) × ComesTo O s w from (waits.Wrong label
 abbrev pub IsTurned : (O : Bundle) (n : Limits) → Net O n → ℕ → World → SharedBoard → SharedBoard → Turned → Type 0
 IsTurned O n N s w old new (turned.Acts left) = MakesDeed O n N s w old new left
 IsTurned O n N s w old new (turned.Rests x) = FindsNothing O n N s w old new x
-IsTurned O n N s w old new (turned.Wrong label) = IsStuck O s w (N.site s w) label
+IsTurned O n N s w old new (turned.Wrong label) = (new.entries ≡ old.entries) × IsStuck O s w (N.site s w) label

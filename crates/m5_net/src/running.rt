@@ -20,11 +20,11 @@ pub struct Running {
     pub shared: Shared,
 }
 
-/// Whether the run goes on, or the block of a label does what has no meaning.
+/// Whether the run goes on, or at a site the block of a label does what has no meaning.
 #[derive(Clone, Copy, Debug, PartialEq, Eq)]
 pub enum Going {
     On,
-    Wrong(u16),
+    Wrong(SiteName, u16),
 }
 
 /// One turn of a site; that of a stopped one is skipped.
@@ -51,7 +51,7 @@ pub fn take_turn(
             put_site(&mut running.sites, name, Some(site));
             Ok(Going::On)
         }
-        Turned::Wrong(label) => Ok(Going::Wrong(label)),
+        Turned::Wrong(label) => Ok(Going::Wrong(name, label)),
     }
 }
 
@@ -70,7 +70,7 @@ pub fn take_turns(
     'turns: for name in names {
         match take_turn(alloc, object, running, *name)? {
             Going::On => {}
-            Going::Wrong(label) => return Ok(Going::Wrong(label)),
+            Going::Wrong(site, label) => return Ok(Going::Wrong(site, label)),
         }
     }
     Ok(Going::On)

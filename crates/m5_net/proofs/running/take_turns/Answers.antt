@@ -1,4 +1,4 @@
-use Rattle.std.proofs.Common.{List, length, get_or, refl, subst, ◌∙◌}
+use Rattle.std.proofs.Common.{List, length, refl, subst, ◌∙◌}
 use Rattle.std.proofs.lemmas.List.Elements.{All-get_or}
 use Rattle.std.proofs.lemmas.List.{take_all}
 use Rattle.m5_terms.specs.declared.types.World.TheVariants.{Home}
@@ -25,7 +25,7 @@ pub returns-in-Wrong-clause-turned : goal.returns-in-Wrong-clause-turned
 returns-in-Wrong-clause-turned c = λ n count N h a.
     let before = c.turns.invariant.1 n count N h a in
     let site = All-get_or (λ (x : SiteName). IsAmong count x.session x.world) c.args.names.now c.turns.name-index past c.turns-test.true a in
-    stuck_there c.args.object.now n count N c.args.names.now c.turns.name-index (get_or c.args.names.now c.turns.name-index past) c.args.running.now c.turns.running c.in-Wrong.label a site before
+    stuck_there c.args.object.now n count N c.args.names.now c.turns.name-index past c.in-Wrong.site c.args.running.now c.turns.running c.take_turn.new.running c.in-Wrong.label c.turns-test.true before
     (rw c.in-Wrong.is at (c.in_ok-take_turn.ensures.turned n count before.after before.made.stands site))
 
 pub returns-in-Wrong-clause-ready : goal.returns-in-Wrong-clause-ready

@@ -1,4 +1,4 @@
-use Rattle.std.proofs.Common.{sym, ◌∙◌}
+use Rattle.std.proofs.Common.{refl, sym, ◌∙◌}
 use Rattle.m5_site.proofs.Computed.{if_ok}
 use Rattle.m5_net.proofs.Turns.{answer_turned, stop_turned, wrong_turned, asks_waits, look_waits, stop_waits, wrong_waits, looks_going, ready_turned}
 use Rattle.m5_net.proofs.turn.turn.Goals as goal
@@ -25,7 +25,7 @@ pub returns-in-Wrong-clause-turned : goal.returns-in-Wrong-clause-turned
 returns-in-Wrong-clause-turned c =
     let k = c.in_ok-compute.ensures in
     let z = c.compute.new.self in
-    wrong_turned c.args.object.now c.args.site z c.args.shared.now c.args.shared.now c.in-Wrong.label (wrong_waits z.wait c.in-Wrong.label (sym c.in-Wrong.is ∙ k.need)) k.comes
+    wrong_turned c.args.object.now c.args.site z c.args.shared.now c.args.shared.now c.in-Wrong.label refl (wrong_waits z.wait c.in-Wrong.label (sym c.in-Wrong.is ∙ k.need)) k.comes
 
 pub returns-in_ok-ask-in-Ask-clause-ready : goal.returns-in_ok-ask-in-Ask-clause-ready
 returns-in_ok-ask-in-Ask-clause-ready c =
