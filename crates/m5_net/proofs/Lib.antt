@@ -4,3 +4,5 @@ pub mod Turns
 pub mod ChangedSite
 pub mod TakenTurns
 pub mod TurnLists
+pub mod OpenedRuns
+pub mod WholeRuns

@@ -105,7 +105,7 @@ enters_alike code argument x = by_room (nat_lt (length x.bench.threads) MOST_ITE
     by_room true = refl
     by_room false = refl
 
-begins_alike : (code argument : Value) (x : State) → Alike x (begins code argument x)
+pub begins_alike : (code argument : Value) (x : State) → Alike x (begins code argument x)
 begins_alike code argument x = by_room (nat_lt (length x.bench.threads) MOST_ITEMS)
   where
     by_room : (b : Bool) → Alike x (cond b (with_threads (x.bench.threads ++ record { code = code; argument = argument } ∷ []) x) (to_stop Table x))
@@ -118,7 +118,7 @@ made_alike mades.NoRegion x go h = refl
 made_alike mades.NoTable x go h = refl
 made_alike mades.NoCase x go h = refl
 
-new_alike : (o : Object) (f : Ref → Value) (x : State) (go : Value → State → State) → ((v : Value) (y : State) → Alike y (go v y)) → Alike x (with_new o f x go)
+pub new_alike : (o : Object) (f : Ref → Value) (x : State) (go : Value → State → State) → ((v : Value) (y : State) → Alike y (go v y)) → Alike x (with_new o f x go)
 new_alike o f x go h = made_alike (with_object x.bench.region o f).0 (with_region (with_object x.bench.region o f).1 x) go h
 
 got_alike : (next : Value) (t : List ℕ) (x : State) → Alike x (got_text next t x)

@@ -32,12 +32,12 @@ joined_append (ds ∷ dss) ess = ap (λ (xs : Deeds). ds ++ xs) (joined_append d
 joined_one : (dss : List Deeds) (ds : Deeds) → joined (dss ++ ds ∷ []) ≡ joined dss ++ ds
 joined_one dss ds = joined_append dss (ds ∷ []) ∙ ap (λ (xs : Deeds). joined dss ++ xs) (append-nil ds)
 
-own_append : (ds es : Deeds) → Each IsOwnDeed ds → Each IsOwnDeed es → Each IsOwnDeed (ds ++ es)
+pub own_append : (ds es : Deeds) → Each IsOwnDeed ds → Each IsOwnDeed es → Each IsOwnDeed (ds ++ es)
 own_append [] es h k = k
 own_append (d ∷ ds) es h k = (h.0, own_append ds es h.1 k)
 
 -- entries of deeds, and of others after them
-entries_on : (old mid new : Running) (ds es : Deeds) → mid.shared.entries ≡ old.shared.entries ++ map shows ds → new.shared.entries ≡ mid.shared.entries ++ map shows es → new.shared.entries ≡ old.shared.entries ++ map shows (ds ++ es)
+pub entries_on : (old mid new : Running) (ds es : Deeds) → mid.shared.entries ≡ old.shared.entries ++ map shows ds → new.shared.entries ≡ mid.shared.entries ++ map shows es → new.shared.entries ≡ old.shared.entries ++ map shows (ds ++ es)
 entries_on old mid new ds es h k = k ∙ (ap (λ (xs : List Entry). xs ++ map shows es) h ∙ (append_assoc old.shared.entries (map shows ds) (map shows es) ∙ ap (λ (xs : List Entry). old.shared.entries ++ xs) (sym (map-append shows ds es))))
 
 -- what was made first and what was made then
@@ -76,6 +76,7 @@ stuck_there O n count N xs i d x old mid new label l h k = record {
   at = h.after;
   way = record { number = i; site = slice_get-get_or xs i d l ∙ ap Some (sym k.0); made = h.deeds; turns = h.turns; all = refl };
   entries = k.1 ∙ h.made.entries;
+  own = h.made.own;
   stuck = subst (λ (y : SiteName). IsStuck O y.session y.world (h.after.site y.session y.world) label) (sym k.0) k.2;
 }
 
@@ -120,6 +121,7 @@ strands_rounds O n count N xs old mid new x label h k = record {
   at = k.at;
   way = record { rounds = h.rounds; begins = h.after; going = h.going; made = k.deeds; last = k.way; all = refl };
   entries = entries_on old mid new (joined (map joined h.rounds)) k.deeds h.made.entries k.entries;
+  own = own_append (joined (map joined h.rounds)) k.deeds h.made.own k.own;
   stuck = k.stuck;
 }
 

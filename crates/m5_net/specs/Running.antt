@@ -4,18 +4,20 @@ use Rattle.std.specs.List.{AllByRecursion as Each}
 use Rattle.m5_terms.specs.declared.types.World.{World}
 use Rattle.m5_terms.specs.declared.ask.Entry.{Entry}
 use Rattle.m5_terms.specs.Worlds.{IsSiteWorld}
+use Rattle.m5_script.specs.Scenario.{Scenario}
 use Rattle.m5_script.specs.declared.items.SiteName.{SiteName}
 use Rattle.m5_network.specs.Claim.{IsAtItsWorld, primitive_of}
 use Rattle.m5_network.specs.Entries.{Deed, entry_of}
 use Rattle.m5_network.specs.Kinds.{IsAmong}
-use Rattle.m5_network.specs.Plain.{TurnOf, Turns, Rounds, joined}
+use Rattle.m5_network.specs.Opening.{opening_of}
+use Rattle.m5_network.specs.Plain.{TurnOf, Turns, Rounds, PlainOrder, joined}
 use Rattle.m5_board.specs.Boards.{board_of}
 use Rattle.m5_shared.specs.Shared.{is_sealed}
 use Rattle.m5_site.specs.declared.state.Limits.{Limits}
-use Rattle.m5_site.specs.Kind.{object_kind}
+use Rattle.m5_site.specs.Kind.{object_kind, limits_of}
 use Rattle.m5_site.specs.Object.{Bundle}
 use Rattle.m5_net.specs.Sites.{site_at}
-use Rattle.m5_net.specs.UpTo.{TurnsUpTo, RoundsUpTo}
+use Rattle.m5_net.specs.UpTo.{TurnsUpTo, RoundsUpTo, OrderUpTo}
 use Rattle.m5_net.specs.Turning.{Net, IsLeft, IsReadyLeft, IsStuck}
 use Rattle.m5_net.specs.declared.running.Going.{Going}
 use Rattle.m5_net.specs.declared.running.Going.TheVariants as going
@@ -98,6 +100,7 @@ pub record Strands (O : Bundle) (n : Limits) (up_to : List (Deed (List ℕ)) →
   pub at : Net O n
   pub way : up_to deeds at
   pub entries : new.shared.entries ≡ old.shared.entries ++ map shows deeds
+  pub own : Each IsOwnDeed deeds
   pub stuck : IsStuck O x.session x.world (at.site x.session x.world) label
 
 abbrev pub TurnsEnd : (O : Bundle) (n : Limits) → ℕ → Net O n → List SiteName → Running → Running → Going → Type 0
@@ -107,3 +110,21 @@ TurnsEnd O n count N xs old new (going.Wrong x label) = Strands O n (TurnsUpTo (
 abbrev pub RoundsEnd : (O : Bundle) (n : Limits) → ℕ → Net O n → List SiteName → Running → Running → Going → Type 0
 RoundsEnd O n count N xs old new going.On = Settles O n count N xs old new
 RoundsEnd O n count N xs old new (going.Wrong x label) = Strands O n (RoundsUpTo (TurnOf (object_kind O n)) xs N x) old new x label
+
+-- as a script opens it, with no entry so far
+pub record Opens (O : Bundle) (S : Scenario) (r : Running) : Type 0 where
+  pub stands : StandsFor O (limits_of S) S.sessions r (opening_of (object_kind O (limits_of S)) S)
+  pub ready : IsReady O r
+  pub count : length r.sites.items ≡ S.sessions
+  pub entries : r.shared.entries ≡ []
+
+-- the whole plain order
+pub record Finishes (O : Bundle) (S : Scenario) (old new : Running) : Type 0 where
+  pub deeds : List (Deed (List ℕ))
+  pub last : Net O (limits_of S)
+  pub plain : PlainOrder (TurnOf (object_kind O (limits_of S))) S (opening_of (object_kind O (limits_of S)) S) deeds last
+  pub made : Made O (limits_of S) S.sessions old new deeds last
+
+abbrev pub OrderEnds : Bundle → Scenario → Running → Running → Going → Type 0
+OrderEnds O S old new going.On = Finishes O S old new
+OrderEnds O S old new (going.Wrong x label) = Strands O (limits_of S) (OrderUpTo (TurnOf (object_kind O (limits_of S))) S (opening_of (object_kind O (limits_of S)) S) x) old new x label
