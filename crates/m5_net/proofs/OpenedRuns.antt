@@ -1,5 +1,5 @@
 -- The sites of a run as it opens stand for the opening.
-use Rattle.std.proofs.Common.{◌≡◌, ◌≢◌, ℕ, zero, suc, pos, ◌+◌, ◌<◌, ◌≤◌, List, [], ◌∷◌, ◌++◌, length, Option, Some, None, false, refl, sym, subst, ◌∙◌, arith, slice_get}
+use Rattle.std.proofs.Common.{◌≡◌, ◌≢◌, ℕ, zero, suc, pos, ◌+◌, ◌<◌, List, [], ◌∷◌, ◌++◌, length, Option, Some, None, false, refl, sym, subst, ◌∙◌, arith, slice_get}
 use Rattle.m5_region.specs.declared.value.Value.TheVariants as values
 use Rattle.m5_region.specs.Region.{ArrayOf}
 use Rattle.m5_terms.specs.declared.types.World.{World}

@@ -7,12 +7,12 @@ use Rattle.m5_terms.specs.declared.ask.Entry.{Entry}
 use Rattle.m5_terms.specs.declared.ask.End.TheVariants as end
 use Rattle.m5_script.specs.Scenario.{Scenario, IsScript}
 use Rattle.m5_script.specs.declared.items.SiteName.{SiteName}
-use Rattle.m5_network.specs.Claim.{IsHistoryOf, IsAtItsWorld, primitive_of, place_of}
+use Rattle.m5_network.specs.Claim.{IsAtItsWorld, primitive_of, place_of}
 use Rattle.m5_network.specs.Entries.{Deed}
 use Rattle.m5_network.specs.Kinds.{Place, RunOf}
 use Rattle.m5_network.specs.Laws.{IsSiteNamed, places_shown}
 use Rattle.m5_network.specs.Opening.{opening_of}
-use Rattle.m5_network.specs.Plain.{sites_of, joined, TurnOf, PlainOrder}
+use Rattle.m5_network.specs.Plain.{sites_of, joined}
 use Rattle.m5_network.proofs.Finished.{order-finished}
 use Rattle.m5_network.proofs.PlainRuns.{places-are, order-run, order-named, round-named}
 use Rattle.m5_shared.specs.Shared.{history_of}
@@ -20,9 +20,8 @@ use Rattle.m5_site.specs.Kind.{object_kind, limits_of}
 use Rattle.m5_site.specs.Object.{Bundle}
 use Rattle.m5_site.proofs.Apart.{stops_apart}
 use Rattle.m5_net.specs.Run.{IsFinishedRun, IsWrongRun}
-use Rattle.m5_net.specs.Running.{IsNamed, TakesTurns, Settles, Strands, TurnsEnd, RoundsEnd, Finishes, OrderEnds, IsOwnDeed, shows}
+use Rattle.m5_net.specs.Running.{IsNamed, TakesTurns, Settles, TurnsEnd, RoundsEnd, Finishes, OrderEnds, IsOwnDeed, shows}
 use Rattle.m5_net.specs.Turning.{Net}
-use Rattle.m5_net.specs.UpTo.{TurnsUpTo, OrderUpTo}
 use Rattle.m5_net.specs.declared.running.Going.{Going}
 use Rattle.m5_net.specs.declared.running.Going.TheVariants as going
 use Rattle.m5_net.specs.declared.running.Running.{Running}

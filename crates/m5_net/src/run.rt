@@ -1,6 +1,6 @@
 //! The run of an object and a script in the plain order.
 
-ghost use Rattle.std.specs.Prelude.{◌≡◌, ◌≤◌, IfOk};
+ghost use Rattle.std.specs.Prelude.{◌≡◌, IfOk};
 ghost use Rattle.m5_terms.specs.declared.ask.End.TheVariants as end;
 ghost use Rattle.m5_script.specs.Scenario.{IsScript};
 ghost use Rattle.m5_site.specs.Kind.{limits_of};
@@ -31,10 +31,16 @@ fn limits_of(script: &Script) -> Limits
 }
 
 /// The run as it opens.
-fn open(alloc: Global, object: &Object, script: &Script) -> Result<Running, AllocError>
+fn open(
+    alloc: Global,
+    object: &Object,
+    script: &Script,
+    limits: Limits,
+) -> Result<Running, AllocError>
+    requires limits { limits ≡ limits_of script.now }
+    requires script { IsScript script.now }
     ensures { IfOk result (Opens object.now script.now) }
 {
-    let limits = limits_of(script);
     Ok(Running {
         sites: open_sites(alloc, object, script.sessions, limits)?,
         shared: Shared::make(alloc, script)?,
@@ -78,8 +84,8 @@ fn wrong_at(history: History, site: SiteName, label: u16) -> History
 pub fn run_net(alloc: Global, object: &Object, script: &Script) -> Result<History, AllocError>
     ensures { IfOk result (IsNetRun object.now script.now) }
 {
-    let _limits = limits_of(script);
-    let mut running = open(alloc, object, script)?;
+    let limits = limits_of(script);
+    let mut running = open(alloc, object, script, limits)?;
     let going = go(alloc, object, &mut running, script)?;
     let history = running.shared.into_history();
     match going {
