@@ -26,7 +26,7 @@ fn is_empty(ids: &[u32]) -> bool
 }
 
 /// Whether a label stands at a world, takes unit and nothing from outside.
-pub(crate) fn takes_unit(dicts: &Dicts, world: World, label: u16) -> bool
+pub fn takes_unit(dicts: &Dicts, world: World, label: u16) -> bool
     ensures { result ≡ takes_unit dicts.now world label }
 {
     match dicts.label(label) {
@@ -94,7 +94,7 @@ fn has_its_labels(dicts: &Dicts, world: World, code: &Blocks) -> bool
 }
 
 /// Whether blocks are the code of a world.
-pub(crate) fn is_code_at(dicts: &Dicts, world: World, code: &Blocks) -> bool
+pub fn is_code_at(dicts: &Dicts, world: World, code: &Blocks) -> bool
     requires { length code.now.starts ≤ 65536 }
     ensures { IsTrue result ↔ IsCodeAt dicts.now world code.now }
 {

@@ -3,7 +3,7 @@
 
 mod answers;
 mod asking;
-mod check;
+pub mod check;
 mod computing;
 pub mod laws;
 mod making;
