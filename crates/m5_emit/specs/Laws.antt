@@ -1,0 +1,46 @@
+-- The laws of emission.
+use Rattle.std.specs.Prelude.{ℕ, List, ◌++◌, IsTrue, length, FitsSigned}
+use Rattle.std.specs.Int.{w64}
+use Rattle.m5_terms.specs.declared.types.World.{World}
+use Rattle.m5_terms.specs.declared.form.LeafForm.TheVariants as leaf_form
+use Rattle.m5_region.specs.declared.value.Value.{Value}
+use Rattle.m5_region.specs.declared.bench.Bench.{Bench}
+use Rattle.m5_region.specs.Region.{Object}
+use Rattle.m5_machine.specs.Blocks.{Flat}
+use Rattle.m5_machine.specs.Body.{Body}
+use Rattle.m5_machine.specs.Block.{run_body}
+use Rattle.m5_cps.specs.Blocks.{Straight, constant, spawn}
+use Rattle.m5_cps.specs.Captured.{straight_uses}
+use Rattle.m5_cps.specs.Deeds.{Ran, performed}
+use Rattle.m5_flat.specs.Values.{Closure, Site}
+use Rattle.m5_flat.specs.Values as flat
+use Rattle.m5_flat.specs.Fits.{IsPlain}
+use Rattle.m5_emit.specs.Represents.{Represents}
+use Rattle.m5_emit.specs.Emit.{Dialect, Rest, straight_body}
+use Rattle.m5_emit.specs.Follows.{Grows, Holds, MayEnter, IsSite, Follows}
+
+-- what stands for a value does so when there are more objects
+abbrev pub StandsOn : Type 0
+StandsOn = (os more : List Object) (a : flat.Value) (v : Value) → Represents os a v → Represents (os ++ more) a v
+
+-- a number has 64 bits, and a thread that begins enters a block of this code
+abbrev pub MayRun : Flat → (ℕ → flat.Value) → Straight → Type 0
+MayRun code ρ (constant (leaf_form.Var x)) = ⊥
+MayRun code ρ (constant (leaf_form.Valid x)) = ⊥
+MayRun code ρ (constant (leaf_form.Int n)) = FitsSigned w64 n
+MayRun code ρ (spawn x) = MayEnter code (ρ x)
+MayRun code ρ f = IsPlain f
+
+-- what goes on from the value goes on from the slot, whatever was made before
+abbrev pub GoOn : ℕ → List Value → Flat → Bench → Rest → (Site → flat.Value → Ran Closure) → Type 0
+GoOn total hs code old rest go_on =
+    (new : Bench) (s : Site) (slot : ℕ) (a : flat.Value) → Grows old new → IsSite total hs new s → Holds new slot a →
+    Follows total hs (go_on s a) (run_body code (rest slot (length new.slots)) new)
+
+-- a straight form's instructions follow it, with its units, if what comes next does
+abbrev pub StraightsFollow : Type 0
+StraightsFollow =
+    (total : ℕ) (hs : List Value) (code : Flat) (d : Dialect) (u : World) (f : Straight) (at : ℕ → ℕ) (ρ : ℕ → flat.Value) (s : Site) (bench : Bench)
+    (rest : Rest) (go_on : Site → flat.Value → Ran Closure) → MayRun code ρ f → ((x : ℕ) → IsTrue (straight_uses f x) → Holds bench (at x) (ρ x)) →
+    IsSite total hs bench s → GoOn total hs code bench rest go_on →
+    Follows total hs (performed u f ρ s go_on) (run_body code (straight_body d u f at (length bench.slots) rest) bench)

@@ -1,0 +1,4 @@
+pub mod Represents
+pub mod Emit
+pub mod Follows
+pub mod Laws
