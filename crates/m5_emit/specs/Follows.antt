@@ -38,6 +38,11 @@ abbrev pub MayEnter : Flat → flat.Value → Type 0
 MayEnter code (closed (under i k) σ) = IsSome (start_of code i)
 MayEnter code _ = ⊥
 
+abbrev pub GoesWrong : Ran Closure → Type 0
+GoesWrong (makes p r) = GoesWrong r
+GoesWrong (ends wrong) = Unit {0}
+GoesWrong (ends x) = ⊥
+
 -- a region of so many units in all, and the handlers of its site
 module _ (total : ℕ) (hs : List Value) where
   pub record IsSite (bench : Bench) (s : Site) : Type 0 where
@@ -80,6 +85,6 @@ module _ (total : ℕ) (hs : List Value) where
   -- each object is made where it fits in the region, and the first that does not fit ends the run; of a block that goes wrong
   -- nothing is said
   abbrev pub Follows : Ran Closure → Next × Bench → Type 0
-  Follows (makes p r) m = ((total < p.units) × (m.0 ≡ next.FullRegion)) ⊎ ((p.units ≤ total) × Follows r m)
+  Follows (makes p r) m = GoesWrong r ⊎ (((total < p.units) × (m.0 ≡ next.FullRegion)) ⊎ ((p.units ≤ total) × Follows r m))
   Follows (ends wrong) m = Unit {0}
   Follows (ends x) m = EndsAs (ends x) m.0 m.1
