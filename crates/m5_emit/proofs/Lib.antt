@@ -1,2 +1,4 @@
 pub mod Standing
 pub mod Instructions
+pub mod Straights
+pub mod Tables

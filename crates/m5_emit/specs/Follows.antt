@@ -35,7 +35,7 @@ pub record Holds (bench : Bench) (slot : ℕ) (a : flat.Value) : Type 0 where
 
 -- a closure whose label has a block in this code
 abbrev pub MayEnter : Flat → flat.Value → Type 0
-MayEnter code (closed (under i k) σ) = IsSome (start_of code i)
+MayEnter code (closed (under i k) σ) = (i ≤ 65535) × IsSome (start_of code i)
 MayEnter code _ = ⊥
 
 abbrev pub GoesWrong : Ran Closure → Type 0
