@@ -14,10 +14,10 @@ use Rattle.m5_machine.specs.declared.made.Made.TheVariants.{Gives, NoRegion, NoT
 use Rattle.m5_machine.specs.declared.next.Next.{Next}
 use Rattle.m5_machine.specs.declared.next.Next.TheVariants.{FullRegion, FullTable}
 use Rattle.m5_machine.specs.Blocks.{Flat}
-use Rattle.m5_machine.specs.Body.{Body, Then}
-use Rattle.m5_machine.specs.Operand.{with_one, array_in, text_at, text_in}
+use Rattle.m5_machine.specs.Body.{Body, Then, If}
+use Rattle.m5_machine.specs.Operand.{with_one, bool_in, array_in, text_at, text_in}
 use Rattle.m5_machine.specs.Table.{made, in_region, with_object, added, array_of, is_filled, value_at, part}
-use Rattle.m5_machine.specs.Block.{run_body, and_then, fill_with}
+use Rattle.m5_machine.specs.Block.{run_body, and_then, fill_with, choice}
 use Rattle.m5_cps.specs.Deeds.{Ran, makes, ends, taking}
 use Rattle.m5_flat.specs.Values.{Closure, Site}
 use Rattle.m5_flat.specs.Values as flat
@@ -116,7 +116,7 @@ module _ (total : ℕ) (hs : List Value) (code : Flat) where
       subst (λ z. Follows total hs (go_on s a) (run_body code (rest (length bench.slots) z) (with_slot new v))) long
       (go (with_slot new v) s (length bench.slots) a g h (last_holds bench (with_slot new v) v a (ap (λ z. z ++ v ∷ []) e) r))
 
-  slot_fits : (bench : Bench) (v : Value) (s : Site) → IsSite total hs bench s → IsSite total hs (with_slot bench v) s
+  pub slot_fits : (bench : Bench) (v : Value) (s : Site) → IsSite total hs bench s → IsSite total hs (with_slot bench v) s
   slot_fits bench v s h = record { threads = h.threads; cells = h.cells; handlers = h.handlers; units = h.units }
 
   -- an instruction that gives a value and changes nothing
@@ -183,3 +183,20 @@ module _ (total : ℕ) (hs : List Value) (code : Flat) where
       on (o ∷ os) (v ∷ ws) k = (got_on bench.slots (t ∷ []) o v k.0, on os ws k.1)
       on [] (v ∷ ws) k = absurd k
       on (o ∷ os) [] k = absurd k
+
+  -- with the numbers of slots as they are written
+  pub tagged_at : (n p q : ℕ) (tag : Instruction) (t : Value) (ops : List ℕ) (vs : List Value) (c : ℕ) (bench : Bench) (s : Site) (a : flat.Value) (rest : Rest) (go_on : Site → flat.Value → Ran Closure) → length bench.slots ≡ n → suc n ≡ p → suc p ≡ q → ((b : Bench) → made code tag b ≡ (Gives t, b)) → AllZip (λ o v. slice_get bench.slots o ≡ Some v) ops vs → length vs + 2 ≡ c →
+      ((os : List Object) (v : Value) → IsArrayOf (bench.region.objects ++ os) (t ∷ vs) v → Represents (bench.region.objects ++ os) a v) → IsSite total hs bench s → GoOn total hs code bench rest go_on →
+      Follows total hs (taking c s (λ s1. go_on s1 a)) (run_body code (Then tag (Then (instructions.Array (n ∷ ops)) (rest p q))) bench)
+  tagged_at n p q tag t ops vs c bench s a rest go_on en ep eq e z l r h go =
+      let r0 : Ran Closure = taking c s (λ s1. go_on s1 a) in
+      subst (λ w. Follows total hs r0 (run_body code (Then tag (Then (instructions.Array (n ∷ ops)) (rest p w))) bench)) eq
+      (subst (λ w. Follows total hs r0 (run_body code (Then tag (Then (instructions.Array (n ∷ ops)) (rest w (suc w)))) bench)) ep
+      (subst (λ w. Follows total hs r0 (run_body code (Then tag (Then (instructions.Array (w ∷ ops)) (rest (suc w) (suc (suc w))))) bench)) en
+      (tagged_on tag t ops vs c bench s a rest go_on e z l r h go)))
+
+  -- one of two bodies
+  pub chosen : (slot : ℕ) (t : Bool) (first second : Body) (bench : Bench) (r : Ran Closure) → slice_get bench.slots slot ≡ Some (values.Bool t) → Follows total hs r (run_body code (if t then first else second) bench) → Follows total hs r (run_body code (If slot first second) bench)
+  unfolding run_body
+  chosen slot true first second bench r e k = subst (Follows total hs r) (sym (ap (λ o. choice (bool_in o) bench (run_body code first bench) (run_body code second bench)) e)) k
+  chosen slot false first second bench r e k = subst (Follows total hs r) (sym (ap (λ o. choice (bool_in o) bench (run_body code first bench) (run_body code second bench)) e)) k

@@ -1,4 +1,6 @@
 pub mod Standing
 pub mod Instructions
+pub mod Operands
+pub mod Quotients
 pub mod Straights
 pub mod Tables

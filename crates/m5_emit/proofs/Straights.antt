@@ -43,6 +43,7 @@ use Rattle.m5_emit.specs.Emit.{Dialect, bytecode, script, Rest, by, tagged, stra
 use Rattle.m5_emit.specs.Follows.{Grows, Holds, IsSite, Follows}
 use Rattle.m5_emit.specs.Laws.{GoOn, MayRun}
 use Rattle.m5_emit.proofs.Standing.{got_last, stands_on}
+use Rattle.m5_emit.proofs.Operands.{int_is, both_ints, equals, equals_texts}
 use Rattle.m5_emit.proofs.Instructions.{part_is, text_is, gives_on, makes_on, array_on, tagged_on}
 
 text_long : (t : List ℕ) → units_of (TextOf t) ≡ text_units (length t)
@@ -85,12 +86,8 @@ module _ (total : ℕ) (hs : List Value) (code : Flat) (d : Dialect) (u : World)
     seconds (join pair a b) k = one_value (instructions.Field x 1) k.stands.1 b (ap (λ o. given bench o) (part_is bench.region.objects bench.slots x 1 k.value _ k.there k.stands.2)) k.stands.4
     seconds _ k = tt
 
-    -- the number in a slot
-    int_is : (x : ℕ) (n : ℤ) (k : Holds bench x (atom (leaf_form.Int n))) → int_in (slice_get bench.slots x) ≡ Some n
-    int_is x n k = ap int_in (k.there ∙ ap Some k.stands.0)
-
     pub texts : (a : flat.Value) → Holds bench x a → F (did_taking u s (one_units unary_form.StrOf (text_of a)) (text_of a) go_on) (Then (instructions.Str x) (rest m (suc m)))
-    texts (atom (leaf_form.Int n)) k = one_text (instructions.Str x) (signed_decimal n) (ap (λ o. in_region bench (added bench.region (with_one o (λ n. Some (TextOf (signed_decimal n)))) values.Text)) (int_is x n k))
+    texts (atom (leaf_form.Int n)) k = one_text (instructions.Str x) (signed_decimal n) (ap (λ o. in_region bench (added bench.region (with_one o (λ n. Some (TextOf (signed_decimal n)))) values.Text)) (int_is bench x n k))
     texts _ k = tt
 
     -- an injection
@@ -117,49 +114,28 @@ module _ (total : ℕ) (hs : List Value) (code : Flat) (d : Dialect) (u : World)
       abbrev D : Op → flat.Value → flat.Value → Type 0
       D o a b = F (did_taking u s (two_units (binary_form.Binary o) (operated o a b)) (operated o a b) go_on) (Then (operation d u o x y) (rest m (suc m)))
 
-      both_ints : (f : ℤ → ℤ → Value) (n k : ℤ) → Holds bench x (atom (leaf_form.Int n)) → Holds bench y (atom (leaf_form.Int k)) → with_two (int_in (slice_get bench.slots x)) (int_in (slice_get bench.slots y)) f ≡ Some (f n k)
-      both_ints f n k p q = ap (λ o. with_two o (int_in (slice_get bench.slots y)) f) (int_is x n p) ∙ ap (λ o. with_two (Some n) o f) (int_is y k q)
-
-      both_texts : (f : List ℕ → List ℕ → Value) (n k : List ℕ) → Holds bench x (atom (leaf_form.Str n)) → Holds bench y (atom (leaf_form.Str k)) → of_texts bench.region.objects bench.slots x y f ≡ Some (f n k)
-      both_texts f n k p q = ap (λ o. with_two o (text_at bench.region.objects bench.slots y) f) (text_is bench.region.objects bench.slots x p.value n p.there p.stands) ∙ ap (λ o. with_two (Some n) o f) (text_is bench.region.objects bench.slots y q.value k q.there q.stands)
-
-      no_ints : (f : ℤ → ℤ → Value) (n : List ℕ) → Holds bench x (atom (leaf_form.Str n)) → with_two (int_in (slice_get bench.slots x)) (int_in (slice_get bench.slots y)) f ≡ None
-      no_ints f n p = ap (λ o. with_two (int_in o) (int_in (slice_get bench.slots y)) f) p.there ∙ ap (λ o. with_two o (int_in (slice_get bench.slots y)) f) (none p.value p.stands)
-        where
-          none : (v : Value) → IsTextOf bench.region.objects n v → int_in (Some v) ≡ None
-          none (values.Text r) i = refl
-          none _ i = absurd i
-
-      equals : (e : Dialect) (n k : ℤ) → Holds bench x (atom (leaf_form.Int n)) → Holds bench y (atom (leaf_form.Int k)) → made code (equal_ints e x y) bench ≡ (Gives (values.Bool (int_eq n k)), bench)
-      equals bytecode n k p q = ap (given bench) (both_ints _ n k p q)
-      equals script n k p q = ap (λ o. given bench (first_there o (equal_texts_in bench.region.objects bench.slots x y))) (both_ints _ n k p q)
-
-      equals_texts : (e : Dialect) (n k : List ℕ) → Holds bench x (atom (leaf_form.Str n)) → Holds bench y (atom (leaf_form.Str k)) → made code (equal_texts e x y) bench ≡ (Gives (values.Bool (bytes_eq n k)), bench)
-      equals_texts bytecode n k p q = ap (given bench) (both_texts _ n k p q)
-      equals_texts script n k p q = ap (λ o. given bench (first_there o (equal_texts_in bench.region.objects bench.slots x y))) (no_ints _ n p) ∙ ap (given bench) (both_texts _ n k p q)
-
       adds : (a b : flat.Value) → Holds bench x a → Holds bench y b → D op.Add a b
-      adds (atom (leaf_form.Int n)) (atom (leaf_form.Int k)) p q = one_value (instructions.Add x y) (values.Int (int_wrap w64 (n +ℤ k))) _ (ap (given bench) (both_ints _ n k p q ∙ ap (λ z. Some (values.Int z)) (wrapping_add_is w64 n k p.stands.1 q.stands.1))) (refl, SFits-int_wrap w64 (n +ℤ k))
+      adds (atom (leaf_form.Int n)) (atom (leaf_form.Int k)) p q = one_value (instructions.Add x y) (values.Int (int_wrap w64 (n +ℤ k))) _ (ap (given bench) (both_ints bench x y _ n k p q ∙ ap (λ z. Some (values.Int z)) (wrapping_add_is w64 n k p.stands.1 q.stands.1))) (refl, SFits-int_wrap w64 (n +ℤ k))
       adds _ _ p q = tt
 
       subs : (a b : flat.Value) → Holds bench x a → Holds bench y b → D op.Sub a b
-      subs (atom (leaf_form.Int n)) (atom (leaf_form.Int k)) p q = one_value (instructions.Sub x y) (values.Int (int_wrap w64 (n -ℤ k))) _ (ap (given bench) (both_ints _ n k p q ∙ ap (λ z. Some (values.Int z)) (wrapping_sub_is w64 n k p.stands.1 q.stands.1))) (refl, SFits-int_wrap w64 (n -ℤ k))
+      subs (atom (leaf_form.Int n)) (atom (leaf_form.Int k)) p q = one_value (instructions.Sub x y) (values.Int (int_wrap w64 (n -ℤ k))) _ (ap (given bench) (both_ints bench x y _ n k p q ∙ ap (λ z. Some (values.Int z)) (wrapping_sub_is w64 n k p.stands.1 q.stands.1))) (refl, SFits-int_wrap w64 (n -ℤ k))
       subs _ _ p q = tt
 
       muls : (a b : flat.Value) → Holds bench x a → Holds bench y b → D op.Mul a b
-      muls (atom (leaf_form.Int n)) (atom (leaf_form.Int k)) p q = one_value (instructions.Mul x y) (values.Int (int_wrap w64 (n *ℤ k))) _ (ap (given bench) (both_ints _ n k p q ∙ ap (λ z. Some (values.Int z)) (wrapping_mul_is w64 n k p.stands.1 q.stands.1))) (refl, SFits-int_wrap w64 (n *ℤ k))
+      muls (atom (leaf_form.Int n)) (atom (leaf_form.Int k)) p q = one_value (instructions.Mul x y) (values.Int (int_wrap w64 (n *ℤ k))) _ (ap (given bench) (both_ints bench x y _ n k p q ∙ ap (λ z. Some (values.Int z)) (wrapping_mul_is w64 n k p.stands.1 q.stands.1))) (refl, SFits-int_wrap w64 (n *ℤ k))
       muls _ _ p q = tt
 
       lesses : (a b : flat.Value) → Holds bench x a → Holds bench y b → D op.Less a b
-      lesses (atom (leaf_form.Int n)) (atom (leaf_form.Int k)) p q = one_value (instructions.Less x y) (values.Bool (int_lt n k)) _ (ap (given bench) (both_ints _ n k p q)) refl
+      lesses (atom (leaf_form.Int n)) (atom (leaf_form.Int k)) p q = one_value (instructions.Less x y) (values.Bool (int_lt n k)) _ (ap (given bench) (both_ints bench x y _ n k p q)) refl
       lesses _ _ p q = tt
 
       same_ints : (a b : flat.Value) → Holds bench x a → Holds bench y b → D op.EqInt a b
-      same_ints (atom (leaf_form.Int n)) (atom (leaf_form.Int k)) p q = one_value (equal_ints d x y) (values.Bool (int_eq n k)) _ (equals d n k p q) refl
+      same_ints (atom (leaf_form.Int n)) (atom (leaf_form.Int k)) p q = one_value (equal_ints d x y) (values.Bool (int_eq n k)) _ (equals code bench x y d n k p q) refl
       same_ints _ _ p q = tt
 
       same_texts : (a b : flat.Value) → Holds bench x a → Holds bench y b → D op.EqStr a b
-      same_texts (atom (leaf_form.Str n)) (atom (leaf_form.Str k)) p q = one_value (equal_texts d x y) (values.Bool (bytes_eq n k)) _ (equals_texts d n k p q) refl
+      same_texts (atom (leaf_form.Str n)) (atom (leaf_form.Str k)) p q = one_value (equal_texts d x y) (values.Bool (bytes_eq n k)) _ (equals_texts code bench x y d n k p q) refl
       same_texts _ _ p q = tt
 
       joins_texts : (a b : flat.Value) → Holds bench x a → Holds bench y b → D op.Cat a b
