@@ -4,3 +4,5 @@ pub mod Operands
 pub mod Quotients
 pub mod Straights
 pub mod Tables
+pub mod Divided
+pub mod Whole

@@ -6,3 +6,9 @@ ghost use Rattle.m5_emit.specs.Laws.{StandsOn, StraightsFollow};
 pub fn stands_on_holds()
     ensures { StandsOn }
 {}
+
+/// The instructions of a straight form follow it: they fill a slot with what stands for its value, change cells and threads alike,
+/// and make an object of as many units just where the form does.
+pub fn straights_follow_holds()
+    ensures { StraightsFollow }
+{}
