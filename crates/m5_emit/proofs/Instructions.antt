@@ -19,12 +19,13 @@ use Rattle.m5_machine.specs.Operand.{with_one, bool_in, array_in, text_at, text_
 use Rattle.m5_machine.specs.Table.{made, in_region, with_object, added, array_of, is_filled, value_at, part}
 use Rattle.m5_machine.specs.Block.{run_body, and_then, fill_with, choice}
 use Rattle.m5_cps.specs.Deeds.{Ran, makes, ends, taking}
+use Rattle.m5_cps.specs.Running.{last}
 use Rattle.m5_flat.specs.Values.{Closure, Site}
 use Rattle.m5_flat.specs.Values as flat
 use Rattle.m5_emit.specs.Represents.{IsTextOf, IsArrayOf, Represents}
 use Rattle.m5_emit.specs.Emit.{Rest}
 use Rattle.m5_emit.specs.Follows.{Grows, Holds, IsSite, Follows}
-use Rattle.m5_emit.specs.Laws.{GoOn}
+use Rattle.m5_emit.specs.Laws.{marked, GoOn}
 use Rattle.m5_emit.proofs.Standing.{got_on, got_last, stands_on, threads_on, values_on}
 
 pub one_longer : {A : Type 0} (xs : List A) (x : A) → length (xs ++ x ∷ []) ≡ suc (length xs)
@@ -89,7 +90,7 @@ holds_on old new x a g h = record {
 pub last_holds : (bench new : Bench) (v : Value) (a : flat.Value) → new.slots ≡ bench.slots ++ v ∷ [] → Represents new.region.objects a v → Holds new (length bench.slots) a
 last_holds bench new v a e r = record { value = v; there = ap (λ z. slice_get z (length bench.slots)) e ∙ got_last bench.slots v; stands = r }
 
-module _ (total : ℕ) (hs : List Value) (code : Flat) where
+module _ (total : ℕ) (hs : List Value) (H : Site → flat.Value → Type 0) (code : Flat) where
   run_gives : (i : Instruction) (b : Body) (bench new : Bench) (v : Value) → made code i bench ≡ (Gives v, new) → run_body code (Then i b) bench ≡ run_body code b (with_slot new v)
   unfolding run_body
   run_gives i b bench new v e = ap (λ (m : Made × Bench). and_then (fill_with m.0 m.1).0 (fill_with m.0 m.1).1 (run_body code b)) e
@@ -102,28 +103,28 @@ module _ (total : ℕ) (hs : List Value) (code : Flat) where
   unfolding run_body
   run_table i b bench new e = ap (λ (m : Made × Bench). and_then (fill_with m.0 m.1).0 (fill_with m.0 m.1).1 (run_body code b)) e
 
-  pub go_further : (old new : Bench) (rest : Rest) (go_on : Site → flat.Value → Ran Closure) → Grows old new → GoOn total hs code old rest go_on → GoOn total hs code new rest go_on
-  go_further old new rest go_on g k last s x a g1 h v = k last s x a (grows_on old new last g g1) h v
+  pub go_further : (old new : Bench) (rest : Rest) (go_on : Site → flat.Value → Ran Closure) → Grows old new → GoOn total hs H code old rest go_on → GoOn total hs H code new rest go_on
+  go_further old new rest go_on g k last s x a hd g1 h v = k last s x a hd (grows_on old new last g g1) h v
 
   -- an instruction whose value fills the next slot, and which may change what else the bench has
   pub then_on : (i : Instruction) (bench new : Bench) (v : Value) (b : Body) (r : Ran Closure) → made code i bench ≡ (Gives v, new) → Follows total hs r (run_body code b (with_slot new v)) → Follows total hs r (run_body code (Then i b) bench)
   then_on i bench new v b r e k = subst (λ z. Follows total hs r z) (sym (run_gives i b bench new v e)) k
 
-  pub finish_on : (bench new : Bench) (v : Value) (s : Site) (a : flat.Value) (rest : Rest) (go_on : Site → flat.Value → Ran Closure) → Grows bench (with_slot new v) → new.slots ≡ bench.slots → IsSite total hs (with_slot new v) s → Represents new.region.objects a v → GoOn total hs code bench rest go_on →
+  pub finish_on : (bench new : Bench) (v : Value) (s : Site) (a : flat.Value) (rest : Rest) (go_on : Site → flat.Value → Ran Closure) → Grows bench (with_slot new v) → new.slots ≡ bench.slots → IsSite total hs (with_slot new v) s → Represents new.region.objects a v → H s a → GoOn total hs H code bench rest go_on →
       Follows total hs (go_on s a) (run_body code (rest (length bench.slots) (suc (length bench.slots))) (with_slot new v))
-  finish_on bench new v s a rest go_on g e h r go =
+  finish_on bench new v s a rest go_on g e h r hd go =
       let long : length (new.slots ++ v ∷ []) ≡ suc (length bench.slots) = ap (λ z. length (z ++ v ∷ [])) e ∙ one_longer bench.slots v in
       subst (λ z. Follows total hs (go_on s a) (run_body code (rest (length bench.slots) z) (with_slot new v))) long
-      (go (with_slot new v) s (length bench.slots) a g h (last_holds bench (with_slot new v) v a (ap (λ z. z ++ v ∷ []) e) r))
+      (go (with_slot new v) s (length bench.slots) a hd g h (last_holds bench (with_slot new v) v a (ap (λ z. z ++ v ∷ []) e) r))
 
   pub slot_fits : (bench : Bench) (v : Value) (s : Site) → IsSite total hs bench s → IsSite total hs (with_slot bench v) s
   slot_fits bench v s h = record { threads = h.threads; cells = h.cells; handlers = h.handlers; units = h.units }
 
   -- an instruction that gives a value and changes nothing
-  pub gives_on : (i : Instruction) (bench : Bench) (v : Value) (s : Site) (a : flat.Value) (rest : Rest) (go_on : Site → flat.Value → Ran Closure) → made code i bench ≡ (Gives v, bench) → Represents bench.region.objects a v → IsSite total hs bench s → GoOn total hs code bench rest go_on →
+  pub gives_on : (i : Instruction) (bench : Bench) (v : Value) (s : Site) (a : flat.Value) (rest : Rest) (go_on : Site → flat.Value → Ran Closure) → made code i bench ≡ (Gives v, bench) → Represents bench.region.objects a v → IsSite total hs bench s → H s a → GoOn total hs H code bench rest go_on →
       Follows total hs (go_on s a) (run_body code (Then i (rest (length bench.slots) (suc (length bench.slots)))) bench)
-  gives_on i bench v s a rest go_on e r h go =
-      then_on i bench bench v _ _ e (finish_on bench bench v s a rest go_on (slot_grows bench v) refl (slot_fits bench v s h) r go)
+  gives_on i bench v s a rest go_on e r h hd go =
+      then_on i bench bench v _ _ e (finish_on bench bench v s a rest go_on (slot_grows bench v) refl (slot_fits bench v s h) r hd go)
 
   new_fits : (bench : Bench) (o : Object) (v : Value) (s : Site) (c : ℕ) → units_of o ≡ c → units_of o ≤ bench.region.left → IsSite total hs bench s → IsSite total hs (with_new bench o v) (record s { units = s.units + c })
   new_fits bench o v s c q le h = record {
@@ -152,31 +153,31 @@ module _ (total : ℕ) (hs : List Value) (code : Flat) where
           inr (inr (omega (arith, h.units, q, le), then_on i bench new v b _ is (k (new_fits bench o v s c q le h))))
 
   -- and its reference is the value that the form makes
-  pub makes_on : (i : Instruction) (o : Object) (make : Ref → Value) (c : ℕ) (bench : Bench) (s : Site) (a : flat.Value) (rest : Rest) (go_on : Site → flat.Value → Ran Closure) → made code i bench ≡ in_region bench (with_object bench.region o make) → units_of o ≡ c → Represents (bench.region.objects ++ o ∷ []) a (make (record { 0 = length bench.region.objects })) → IsSite total hs bench s → GoOn total hs code bench rest go_on →
+  pub makes_on : (i : Instruction) (o : Object) (make : Ref → Value) (c : ℕ) (bench : Bench) (s : Site) (a : flat.Value) (rest : Rest) (go_on : Site → flat.Value → Ran Closure) → made code i bench ≡ in_region bench (with_object bench.region o make) → units_of o ≡ c → Represents (bench.region.objects ++ o ∷ []) a (make (record { 0 = length bench.region.objects })) → IsSite total hs bench s → H (record s { units = s.units + c }) a → GoOn total hs H code bench rest go_on →
       Follows total hs (taking c s (λ s1. go_on s1 a)) (run_body code (Then i (rest (length bench.slots) (suc (length bench.slots)))) bench)
-  makes_on i o make c bench s a rest go_on e q r h go =
+  makes_on i o make c bench s a rest go_on e q r h hd go =
       let v : Value = make (record { 0 = length bench.region.objects }) in
       object_on i o make c bench s _ (λ s1. go_on s1 a) e q h
-      (λ h1. finish_on bench (record bench { region = record { objects = bench.region.objects ++ o ∷ []; left = bench.region.left - units_of o } }) v (record s { units = s.units + c }) a rest go_on (new_grows bench o v) refl h1 r go)
+      (λ h1. finish_on bench (record bench { region = record { objects = bench.region.objects ++ o ∷ []; left = bench.region.left - units_of o } }) v (record s { units = s.units + c }) a rest go_on (new_grows bench o v) refl h1 r hd go)
 
   -- an array of the values of slots
   pub array_on : (ops : List ℕ) (vs : List Value) (c : ℕ) (bench : Bench) (s : Site) (a : flat.Value) (rest : Rest) (go_on : Site → flat.Value → Ran Closure) → AllZip (λ o v. slice_get bench.slots o ≡ Some v) ops vs → length vs + 1 ≡ c →
-      ((os : List Object) (v : Value) → IsArrayOf (bench.region.objects ++ os) vs v → Represents (bench.region.objects ++ os) a v) → IsSite total hs bench s → GoOn total hs code bench rest go_on →
+      ((os : List Object) (v : Value) → IsArrayOf (bench.region.objects ++ os) vs v → Represents (bench.region.objects ++ os) a v) → IsSite total hs bench s → H (record s { units = s.units + c }) a → GoOn total hs H code bench rest go_on →
       Follows total hs (taking c s (λ s1. go_on s1 a)) (run_body code (Then (instructions.Array ops) (rest (length bench.slots) (suc (length bench.slots)))) bench)
-  array_on ops vs c bench s a rest go_on z q r h go =
+  array_on ops vs c bench s a rest go_on z q r h hd go =
       makes_on (instructions.Array ops) (ArrayOf vs) values.Array c bench s a rest go_on (ap (λ o. in_region bench (added bench.region o values.Array)) (array_is bench.slots ops vs z)) q
-      (r (ArrayOf vs ∷ []) (values.Array (record { 0 = length bench.region.objects })) (ap fields_in (got_last bench.region.objects (ArrayOf vs)))) h go
+      (r (ArrayOf vs ∷ []) (values.Array (record { 0 = length bench.region.objects })) (ap fields_in (got_last bench.region.objects (ArrayOf vs)))) h hd go
 
   -- and one with a tag or a label before them
   pub tagged_on : (tag : Instruction) (t : Value) (ops : List ℕ) (vs : List Value) (c : ℕ) (bench : Bench) (s : Site) (a : flat.Value) (rest : Rest) (go_on : Site → flat.Value → Ran Closure) → ((b : Bench) → made code tag b ≡ (Gives t, b)) → AllZip (λ o v. slice_get bench.slots o ≡ Some v) ops vs → length vs + 2 ≡ c →
-      ((os : List Object) (v : Value) → IsArrayOf (bench.region.objects ++ os) (t ∷ vs) v → Represents (bench.region.objects ++ os) a v) → IsSite total hs bench s → GoOn total hs code bench rest go_on →
+      ((os : List Object) (v : Value) → IsArrayOf (bench.region.objects ++ os) (t ∷ vs) v → Represents (bench.region.objects ++ os) a v) → IsSite total hs bench s → H (record s { units = s.units + c }) a → GoOn total hs H code bench rest go_on →
       Follows total hs (taking c s (λ s1. go_on s1 a)) (run_body code (Then tag (Then (instructions.Array (length bench.slots ∷ ops)) (rest (suc (length bench.slots)) (suc (suc (length bench.slots)))))) bench)
-  tagged_on tag t ops vs c bench s a rest go_on e z q r h go =
+  tagged_on tag t ops vs c bench s a rest go_on e z q r h hd go =
       let mid : Bench = with_slot bench t in
       let n : ℕ = length bench.slots in
       then_on tag bench bench t (Then (instructions.Array (n ∷ ops)) (rest (suc n) (suc (suc n)))) (taking c s (λ s1. go_on s1 a)) (e bench)
       (subst (λ n. Follows total hs (taking c s (λ s1. go_on s1 a)) (run_body code (Then (instructions.Array (length bench.slots ∷ ops)) (rest n (suc n))) mid)) (one_longer bench.slots t)
-      (array_on (length bench.slots ∷ ops) (t ∷ vs) c mid s a rest go_on (got_last bench.slots t, on ops vs z) (omega (arith, q)) r (slot_fits bench t s h) (go_further bench mid rest go_on (slot_grows bench t) go)))
+      (array_on (length bench.slots ∷ ops) (t ∷ vs) c mid s a rest go_on (got_last bench.slots t, on ops vs z) (omega (arith, q)) r (slot_fits bench t s h) hd (go_further bench mid rest go_on (slot_grows bench t) go)))
     where
       on : (ops : List ℕ) (vs : List Value) → AllZip (λ o v. slice_get bench.slots o ≡ Some v) ops vs → AllZip (λ o v. slice_get (bench.slots ++ t ∷ []) o ≡ Some v) ops vs
       on [] [] k = k
@@ -186,17 +187,21 @@ module _ (total : ℕ) (hs : List Value) (code : Flat) where
 
   -- with the numbers of slots as they are written
   pub tagged_at : (n p q : ℕ) (tag : Instruction) (t : Value) (ops : List ℕ) (vs : List Value) (c : ℕ) (bench : Bench) (s : Site) (a : flat.Value) (rest : Rest) (go_on : Site → flat.Value → Ran Closure) → length bench.slots ≡ n → suc n ≡ p → suc p ≡ q → ((b : Bench) → made code tag b ≡ (Gives t, b)) → AllZip (λ o v. slice_get bench.slots o ≡ Some v) ops vs → length vs + 2 ≡ c →
-      ((os : List Object) (v : Value) → IsArrayOf (bench.region.objects ++ os) (t ∷ vs) v → Represents (bench.region.objects ++ os) a v) → IsSite total hs bench s → GoOn total hs code bench rest go_on →
+      ((os : List Object) (v : Value) → IsArrayOf (bench.region.objects ++ os) (t ∷ vs) v → Represents (bench.region.objects ++ os) a v) → IsSite total hs bench s → H (record s { units = s.units + c }) a → GoOn total hs H code bench rest go_on →
       Follows total hs (taking c s (λ s1. go_on s1 a)) (run_body code (Then tag (Then (instructions.Array (n ∷ ops)) (rest p q))) bench)
-  tagged_at n p q tag t ops vs c bench s a rest go_on en ep eq e z l r h go =
+  tagged_at n p q tag t ops vs c bench s a rest go_on en ep eq e z l r h hd go =
       let r0 : Ran Closure = taking c s (λ s1. go_on s1 a) in
       subst (λ w. Follows total hs r0 (run_body code (Then tag (Then (instructions.Array (n ∷ ops)) (rest p w))) bench)) eq
       (subst (λ w. Follows total hs r0 (run_body code (Then tag (Then (instructions.Array (n ∷ ops)) (rest w (suc w)))) bench)) ep
       (subst (λ w. Follows total hs r0 (run_body code (Then tag (Then (instructions.Array (w ∷ ops)) (rest (suc w) (suc (suc w))))) bench)) en
-      (tagged_on tag t ops vs c bench s a rest go_on e z l r h go)))
+      (tagged_on tag t ops vs c bench s a rest go_on e z l r h hd go)))
 
   -- one of two bodies
   pub chosen : (slot : ℕ) (t : Bool) (first second : Body) (bench : Bench) (r : Ran Closure) → slice_get bench.slots slot ≡ Some (values.Bool t) → Follows total hs r (run_body code (if t then first else second) bench) → Follows total hs r (run_body code (If slot first second) bench)
   unfolding run_body
   chosen slot true first second bench r e k = subst (Follows total hs r) (sym (ap (λ o. choice (bool_in o) bench (run_body code first bench) (run_body code second bench)) e)) k
   chosen slot false first second bench r e k = subst (Follows total hs r) (sym (ap (λ o. choice (bool_in o) bench (run_body code first bench) (run_body code second bench)) e)) k
+
+-- what a form goes on with is what H allows
+abbrev pub Hands : (Site → flat.Value → Type 0) → ((Site → flat.Value → Ran Closure) → Ran Closure) → Type 0
+Hands H r = (s : Site) (a : flat.Value) → last (r marked) ≡ last (marked s a) → H s a

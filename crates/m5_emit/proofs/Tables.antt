@@ -24,14 +24,15 @@ use Rattle.m5_machine.specs.Block.{run_body}
 use Rattle.m5_cps.specs.Values.{atom, wrap, join, closed, enter, unit_value}
 use Rattle.m5_cps.specs.Made.{makes_cell, loads, stores, fails, at_cell}
 use Rattle.m5_cps.specs.Deeds.{Ran, did, loaded, stored, spawned, stops_full}
+use Rattle.m5_cps.specs.Running.{last}
 use Rattle.m5_flat.specs.Values.{Closure, under, Site, Thread}
 use Rattle.m5_flat.specs.Values as flat
 use Rattle.m5_emit.specs.Represents.{Represents, IsThread, IsArrayOf}
 use Rattle.m5_emit.specs.Emit.{Rest}
 use Rattle.m5_emit.specs.Follows.{Grows, Holds, MayEnter, IsSite, Follows}
-use Rattle.m5_emit.specs.Laws.{GoOn}
+use Rattle.m5_emit.specs.Laws.{marked, GoOn}
 use Rattle.m5_emit.proofs.Standing.{got_on, got_last}
-use Rattle.m5_emit.proofs.Instructions.{with_slot, slot_grows, gives_on, then_on, finish_on, run_table}
+use Rattle.m5_emit.proofs.Instructions.{Hands, with_slot, slot_grows, gives_on, then_on, finish_on, run_table}
 
 is_lt : (a b : ℕ) → a < b → nat_lt a b ≡ true
 is_lt a b h = by_test (nat_lt a b) refl
@@ -92,7 +93,7 @@ is_entered code os (atom f) v p h = absurd p
 is_entered code os (wrap f a) v p h = absurd p
 is_entered code os (join f a b) v p h = absurd p
 
-module _ (total : ℕ) (hs : List Value) (code : Flat) (u : World) (bench : Bench) (s : Site) (rest : Rest) (go_on : Site → flat.Value → Ran Closure) (h : IsSite total hs bench s) (go : GoOn total hs code bench rest go_on) (x : ℕ) where
+module _ (total : ℕ) (hs : List Value) (H : Site → flat.Value → Type 0) (code : Flat) (u : World) (bench : Bench) (s : Site) (rest : Rest) (go_on : Site → flat.Value → Ran Closure) (h : IsSite total hs bench s) (go : GoOn total hs H code bench rest go_on) (x : ℕ) where
   abbrev F : Ran Closure → Body → Type 0
   F r b = Follows total hs r (run_body code b bench)
 
@@ -104,10 +105,10 @@ module _ (total : ℕ) (hs : List Value) (code : Flat) (u : World) (bench : Benc
 
   -- a table is full
   full_on : (i : Instruction) (b : Body) → made code i bench ≡ (NoTable, bench) → F (stops_full s) (Then i b)
-  full_on i b e = subst (Follows total hs (stops_full s)) (sym (run_table total hs code i b bench bench e)) (record { site = s; is = refl; fits = h })
+  full_on i b e = subst (Follows total hs (stops_full s)) (sym (run_table total hs H code i b bench bench e)) (record { site = s; is = refl; fits = h })
 
-  pub new_cells : (a : flat.Value) → Holds bench x a → F (did u s (makes_cell a) go_on) (Then (instructions.Cell x) (rest m (suc m)))
-  new_cells a k = by_test (nat_le 4096 (length s.cells)) refl
+  pub new_cells : (a : flat.Value) → Holds bench x a → Hands H (λ g. did u s (makes_cell a) g) → F (did u s (makes_cell a) go_on) (Then (instructions.Cell x) (rest m (suc m)))
+  new_cells a k hd = by_test (nat_le 4096 (length s.cells)) refl
     where
       long : length s.cells ≡ length bench.cells
       long = same_length R s.cells bench.cells h.cells
@@ -123,49 +124,50 @@ module _ (total : ℕ) (hs : List Value) (code : Flat) (u : World) (bench : Benc
           let q : length s.cells < 4096 = leb-false _ _ e in
           let v : Value = values.Int (pos (length bench.cells)) in
           let new : Bench = record bench { cells = bench.cells ++ k.value ∷ [] } in
-          then_on total hs code (instructions.Cell x) bench new v (rest m (suc m)) (go_on (record s { cells = s.cells ++ a ∷ [] }) (atom (leaf_form.CellAt u (length s.cells))))
+          then_on total hs H code (instructions.Cell x) bench new v (rest m (suc m)) (go_on (record s { cells = s.cells ++ a ∷ [] }) (atom (leaf_form.CellAt u (length s.cells))))
           (is ∙ ap (λ t. in_cells bench (if t then (Gives v, bench.cells ++ k.value ∷ []) else (NoTable, bench.cells))) (is_lt (length bench.cells) 4096 (omega (arith, q, long))))
-          (finish_on total hs code bench new v (record s { cells = s.cells ++ a ∷ [] }) (atom (leaf_form.CellAt u (length s.cells))) rest go_on (record { objects = []; slots = v ∷ []; objects_are = sym (append-nil bench.region.objects); slots_are = refl }) refl
-          (record { threads = h.threads; cells = one_more R s.cells bench.cells a k.value h.cells k.stands; handlers = h.handlers; units = h.units }) (ap (λ n. values.Int (pos n)) (sym long)) go)
+          (finish_on total hs H code bench new v (record s { cells = s.cells ++ a ∷ [] }) (atom (leaf_form.CellAt u (length s.cells))) rest go_on (record { objects = []; slots = v ∷ []; objects_are = sym (append-nil bench.region.objects); slots_are = refl }) refl
+          (record { threads = h.threads; cells = one_more R s.cells bench.cells a k.value h.cells k.stands; handlers = h.handlers; units = h.units }) (ap (λ n. values.Int (pos n)) (sym long))
+          (hd _ _ (ap (λ t. last (if t then stops_full s else marked (record s { cells = s.cells ++ a ∷ [] }) (atom (leaf_form.CellAt u (length s.cells))))) e)) go)
 
   -- the place of a cell that is there
   placed : (w : World) (n : ℕ) → Holds bench x (atom (leaf_form.CellAt w n)) → n < length bench.cells → cell_in bench.cells bench.slots x ≡ Some n
   placed w n k lt = ap (λ o. with_one (int_in o) (cell_place bench.cells)) (k.there ∙ ap Some k.stands) ∙ ap (λ t. if t then Some n else None) (is_lt n (length bench.cells) lt)
 
-  pub loads_on : (a : flat.Value) → Holds bench x a → F (did u s (at_cell u loads a) go_on) (Then (instructions.Load x) (rest m (suc m)))
-  loads_on (atom (leaf_form.CellAt w n)) k = by_world (same_world w u)
+  pub loads_on : (a : flat.Value) → Holds bench x a → Hands H (λ g. did u s (at_cell u loads a) g) → F (did u s (at_cell u loads a) go_on) (Then (instructions.Load x) (rest m (suc m)))
+  loads_on (atom (leaf_form.CellAt w n)) k hd0 = by_world (same_world w u) hd0
     where
-      by_cell : (o : Option flat.Value) → slice_get s.cells n ≡ o → F (loaded s go_on o) (Then (instructions.Load x) (rest m (suc m)))
-      by_cell None e = tt
-      by_cell (Some a) e =
+      by_cell : (o : Option flat.Value) → slice_get s.cells n ≡ o → Hands H (λ g. loaded s g o) → F (loaded s go_on o) (Then (instructions.Load x) (rest m (suc m)))
+      by_cell None e hd = tt
+      by_cell (Some a) e hd =
           let g = one_got R s.cells bench.cells n a h.cells e in
-          gives_on total hs code (instructions.Load x) bench g.0 s a rest go_on (ap (λ o. given bench (with_one o (slice_get bench.cells))) (placed w n k g.1) ∙ ap (given bench) g.2) g.3 h go
+          gives_on total hs H code (instructions.Load x) bench g.0 s a rest go_on (ap (λ o. given bench (with_one o (slice_get bench.cells))) (placed w n k g.1) ∙ ap (given bench) g.2) g.3 h (hd s a refl) go
 
-      by_world : (t : Bool) → F (did u s (if t then loads n else fails) go_on) (Then (instructions.Load x) (rest m (suc m)))
-      by_world true = by_cell (slice_get s.cells n) refl
-      by_world false = tt
-  loads_on _ k = tt
+      by_world : (t : Bool) → Hands H (λ g. did u s (if t then loads n else fails) g) → F (did u s (if t then loads n else fails) go_on) (Then (instructions.Load x) (rest m (suc m)))
+      by_world true hd = by_cell (slice_get s.cells n) refl hd
+      by_world false hd = tt
+  loads_on _ k hd = tt
 
-  pub stores_on : (y : ℕ) (a b : flat.Value) → Holds bench x a → Holds bench y b → F (did u s (at_cell u (λ n. stores n b) a) go_on) (Then (instructions.Store x y) (rest m (suc m)))
-  stores_on y (atom (leaf_form.CellAt w n)) b k j = by_world (same_world w u)
+  pub stores_on : (y : ℕ) (a b : flat.Value) → Holds bench x a → Holds bench y b → Hands H (λ g. did u s (at_cell u (λ n. stores n b) a) g) → F (did u s (at_cell u (λ n. stores n b) a) go_on) (Then (instructions.Store x y) (rest m (suc m)))
+  stores_on y (atom (leaf_form.CellAt w n)) b k j hd0 = by_world (same_world w u) hd0
     where
-      by_cell : (o : Option flat.Value) → slice_get s.cells n ≡ o → F (stored s go_on n b o) (Then (instructions.Store x y) (rest m (suc m)))
-      by_cell None e = tt
-      by_cell (Some a) e =
+      by_cell : (o : Option flat.Value) → slice_get s.cells n ≡ o → Hands H (λ g. stored s g n b o) → F (stored s go_on n b o) (Then (instructions.Store x y) (rest m (suc m)))
+      by_cell None e hd = tt
+      by_cell (Some a) e hd =
           let g = one_got R s.cells bench.cells n a h.cells e in
           let new : Bench = record bench { cells = slice_set bench.cells n j.value } in
-          then_on total hs code (instructions.Store x y) bench new values.Null (rest m (suc m)) (go_on (record s { cells = slice_set s.cells n b }) unit_value)
+          then_on total hs H code (instructions.Store x y) bench new values.Null (rest m (suc m)) (go_on (record s { cells = slice_set s.cells n b }) unit_value)
           (ap (λ o. in_cells bench (set_cell bench.cells o (slice_get bench.slots y))) (placed w n k g.1) ∙ ap (λ o. in_cells bench (set_cell bench.cells (Some n) o)) j.there)
-          (finish_on total hs code bench new values.Null (record s { cells = slice_set s.cells n b }) unit_value rest go_on (record { objects = []; slots = values.Null ∷ []; objects_are = sym (append-nil bench.region.objects); slots_are = refl }) refl
-          (record { threads = h.threads; cells = one_set R s.cells bench.cells n b j.value h.cells j.stands; handlers = h.handlers; units = h.units }) refl go)
+          (finish_on total hs H code bench new values.Null (record s { cells = slice_set s.cells n b }) unit_value rest go_on (record { objects = []; slots = values.Null ∷ []; objects_are = sym (append-nil bench.region.objects); slots_are = refl }) refl
+          (record { threads = h.threads; cells = one_set R s.cells bench.cells n b j.value h.cells j.stands; handlers = h.handlers; units = h.units }) refl (hd _ _ refl) go)
 
-      by_world : (t : Bool) → F (did u s (if t then stores n b else fails) go_on) (Then (instructions.Store x y) (rest m (suc m)))
-      by_world true = by_cell (slice_get s.cells n) refl
-      by_world false = tt
-  stores_on y _ b k j = tt
+      by_world : (t : Bool) → Hands H (λ g. did u s (if t then stores n b else fails) g) → F (did u s (if t then stores n b else fails) go_on) (Then (instructions.Store x y) (rest m (suc m)))
+      by_world true hd = by_cell (slice_get s.cells n) refl hd
+      by_world false hd = tt
+  stores_on y _ b k j hd = tt
 
-  pub spawns_on : (a : flat.Value) → MayEnter code a → Holds bench x a → F (spawned s a go_on) (Then (instructions.Spawn x) (rest m (suc m)))
-  spawns_on a p k = by_test (nat_le 4096 (suc (length s.threads))) refl
+  pub spawns_on : (a : flat.Value) → MayEnter code a → Holds bench x a → Hands H (λ g. spawned s a g) → F (spawned s a go_on) (Then (instructions.Spawn x) (rest m (suc m)))
+  spawns_on a p k hd = by_test (nat_le 4096 (suc (length s.threads))) refl
     where
       long : length bench.threads ≡ length s.threads
       long = same_length (IsThread bench.region.objects) bench.threads s.threads h.threads
@@ -180,7 +182,8 @@ module _ (total : ℕ) (hs : List Value) (code : Flat) (u : World) (bench : Benc
       by_test false e =
           let q : suc (length s.threads) < 4096 = leb-false _ _ e in
           let new : Bench = record bench { threads = bench.threads ++ record { code = k.value; argument = values.Null } ∷ [] } in
-          then_on total hs code (instructions.Spawn x) bench new values.Null (rest m (suc m)) (go_on (record s { threads = s.threads ++ enter a unit_value ∷ [] }) unit_value)
+          then_on total hs H code (instructions.Spawn x) bench new values.Null (rest m (suc m)) (go_on (record s { threads = s.threads ++ enter a unit_value ∷ [] }) unit_value)
           (is ∙ ap (λ t. in_threads bench (if t then (Gives values.Null, bench.threads ++ record { code = k.value; argument = values.Null } ∷ []) else (NoTable, bench.threads))) (is_lt (suc (length bench.threads)) 4096 (omega (arith, q, long))))
-          (finish_on total hs code bench new values.Null (record s { threads = s.threads ++ enter a unit_value ∷ [] }) unit_value rest go_on (record { objects = []; slots = values.Null ∷ []; objects_are = sym (append-nil bench.region.objects); slots_are = refl }) refl
-          (record { threads = one_more (IsThread bench.region.objects) bench.threads s.threads _ _ h.threads (k.stands, refl); cells = h.cells; handlers = h.handlers; units = h.units }) refl go)
+          (finish_on total hs H code bench new values.Null (record s { threads = s.threads ++ enter a unit_value ∷ [] }) unit_value rest go_on (record { objects = []; slots = values.Null ∷ []; objects_are = sym (append-nil bench.region.objects); slots_are = refl }) refl
+          (record { threads = one_more (IsThread bench.region.objects) bench.threads s.threads _ _ h.threads (k.stands, refl); cells = h.cells; handlers = h.handlers; units = h.units }) refl
+          (hd _ _ (ap (λ t. last (if t then stops_full s else marked (record s { threads = s.threads ++ enter a unit_value ∷ [] }) unit_value)) e)) go)

@@ -1,5 +1,5 @@
 -- The laws of emission.
-use Rattle.std.specs.Prelude.{ℕ, List, ◌++◌, IsTrue, length, FitsSigned}
+use Rattle.std.specs.Prelude.{◌≡◌, ℕ, List, ◌++◌, IsTrue, length, FitsSigned}
 use Rattle.std.specs.Int.{w64}
 use Rattle.m5_terms.specs.declared.types.World.{World}
 use Rattle.m5_terms.specs.declared.form.LeafForm.TheVariants as leaf_form
@@ -12,6 +12,9 @@ use Rattle.m5_machine.specs.Block.{run_body}
 use Rattle.m5_cps.specs.Blocks.{Straight, constant, spawn}
 use Rattle.m5_cps.specs.Captured.{straight_uses}
 use Rattle.m5_cps.specs.Deeds.{Ran, performed}
+use Rattle.m5_cps.specs.Asks.{goes_on}
+use Rattle.m5_cps.specs.Running.{last}
+use Rattle.m5_cps.specs.Values.{enter}
 use Rattle.m5_flat.specs.Values.{Closure, Site}
 use Rattle.m5_flat.specs.Values as flat
 use Rattle.m5_flat.specs.Fits.{IsPlain}
@@ -31,10 +34,18 @@ MayRun code ρ (constant (leaf_form.Int n)) = FitsSigned w64 n
 MayRun code ρ (spawn x) = MayEnter code (ρ x)
 MayRun code ρ f = IsPlain f
 
--- what goes on from the value goes on from the slot, whatever was made before
-abbrev pub GoOn : ℕ → List Value → Flat → Bench → Rest → (Site → flat.Value → Ran Closure) → Type 0
-GoOn total hs code old rest go_on =
-    (new : Bench) (s : Site) (slot : ℕ) (a : flat.Value) → Grows old new → IsSite total hs new s → Holds new slot a →
+-- what comes next is marked by the value that it goes on with
+abbrev pub marked : Site → flat.Value → Ran Closure
+marked s a = goes_on s (enter a a)
+
+-- the form goes on with this value in this site
+abbrev pub GoesOnWith : World → Straight → (ℕ → flat.Value) → Site → Site → flat.Value → Type 0
+GoesOnWith u f ρ s new a = last (performed u f ρ s marked) ≡ last (marked new a)
+
+-- what goes on from a value that H allows goes on from the slot, whatever was made before
+abbrev pub GoOn : ℕ → List Value → (Site → flat.Value → Type 0) → Flat → Bench → Rest → (Site → flat.Value → Ran Closure) → Type 0
+GoOn total hs H code old rest go_on =
+    (new : Bench) (s : Site) (slot : ℕ) (a : flat.Value) → H s a → Grows old new → IsSite total hs new s → Holds new slot a →
     Follows total hs (go_on s a) (run_body code (rest slot (length new.slots)) new)
 
 -- a straight form's instructions follow it, with its units, if what comes next does
@@ -42,5 +53,5 @@ abbrev pub StraightsFollow : Type 0
 StraightsFollow =
     (total : ℕ) (hs : List Value) (code : Flat) (d : Dialect) (u : World) (f : Straight) (at : ℕ → ℕ) (ρ : ℕ → flat.Value) (s : Site) (bench : Bench)
     (rest : Rest) (go_on : Site → flat.Value → Ran Closure) → MayRun code ρ f → ((x : ℕ) → IsTrue (straight_uses f x) → Holds bench (at x) (ρ x)) →
-    IsSite total hs bench s → GoOn total hs code bench rest go_on →
+    IsSite total hs bench s → GoOn total hs (GoesOnWith u f ρ s) code bench rest go_on →
     Follows total hs (performed u f ρ s go_on) (run_body code (straight_body d u f at (length bench.slots) rest) bench)
