@@ -6,3 +6,5 @@ pub mod Straights
 pub mod Tables
 pub mod Divided
 pub mod Whole
+pub mod Closures
+pub mod Tests

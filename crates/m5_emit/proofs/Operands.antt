@@ -35,6 +35,9 @@ module _ (bench : Bench) (x y : ℕ) where
       none _ i = absurd i
 
 module _ (code : Flat) (bench : Bench) (x y : ℕ) where
+  both_at : (n k : ℤ) → slice_get bench.slots x ≡ Some (values.Int n) → slice_get bench.slots y ≡ Some (values.Int k) → with_two (int_in (slice_get bench.slots x)) (int_in (slice_get bench.slots y)) (λ x y. values.Bool (int_eq x y)) ≡ Some (values.Bool (int_eq n k))
+  both_at n k p q = ap (λ o. with_two (int_in o) (int_in (slice_get bench.slots y)) (λ x y. values.Bool (int_eq x y))) p ∙ ap (λ o. with_two (Some n) (int_in o) (λ x y. values.Bool (int_eq x y))) q
+
   pub equals : (e : Dialect) (n k : ℤ) → Holds bench x (atom (leaf_form.Int n)) → Holds bench y (atom (leaf_form.Int k)) → made code (equal_ints e x y) bench ≡ (Gives (values.Bool (int_eq n k)), bench)
   equals bytecode n k p q = ap (given bench) (both_ints bench x y _ n k p q)
   equals script n k p q = ap (λ o. given bench (first_there o (equal_texts_in bench.region.objects bench.slots x y))) (both_ints bench x y _ n k p q)
@@ -43,3 +46,8 @@ module _ (code : Flat) (bench : Bench) (x y : ℕ) where
   equals_texts bytecode n k p q = ap (given bench) (both_texts bench x y _ n k p q)
   equals_texts script n k p q = ap (λ o. given bench (first_there o (equal_texts_in bench.region.objects bench.slots x y))) (no_ints bench x y _ n p) ∙ ap (given bench) (both_texts bench x y _ n k p q)
 
+
+  -- two numbers in slots
+  pub equals_at : (e : Dialect) (n k : ℤ) → slice_get bench.slots x ≡ Some (values.Int n) → slice_get bench.slots y ≡ Some (values.Int k) → made code (equal_ints e x y) bench ≡ (Gives (values.Bool (int_eq n k)), bench)
+  equals_at bytecode n k p q = ap (given bench) (both_at n k p q)
+  equals_at script n k p q = ap (λ o. given bench (first_there o (equal_texts_in bench.region.objects bench.slots x y))) (both_at n k p q)

@@ -47,6 +47,10 @@ code_of_primitive primitive.Show = 7
 abbrev pub Rest : Type 0
 Rest = ℕ → ℕ → Body
 
+-- either way of a test, by the places of the parts and the number of slots that are filled
+abbrev pub Way : Type 0
+Way = List ℕ → ℕ → Body
+
 module _ (d : Dialect) (u : World) where
   -- one instruction's value is in the next slot
   abbrev pub by : Instruction → ℕ → Rest → Body
@@ -114,10 +118,6 @@ module _ (d : Dialect) (u : World) where
   -- a closure's label, and then the slots that it takes
   abbrev pub closure_body : List ℕ → ℕ → (ℕ → ℕ) → ℕ → Rest → Body
   closure_body ls i at m rest = tagged (Int (pos i)) (map at ls) m rest
-
-  -- either way of a test, by the places of the parts and the number of slots that are filled
-  abbrev pub Way : Type 0
-  Way = List ℕ → ℕ → Body
 
   abbrev pub test_body : Test → ℕ → ℕ → Way → Way → Body
   test_body if_true x m this that = If x (this [] m) (that [] m)

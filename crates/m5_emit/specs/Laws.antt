@@ -1,5 +1,6 @@
 -- The laws of emission.
-use Rattle.std.specs.Prelude.{◌≡◌, ℕ, List, ◌++◌, IsTrue, length, FitsSigned}
+use Rattle.std.specs.Prelude.{◌≡◌, ℕ, ◌+◌, List, ◌++◌, Bool, true, false, if◌then◌else◌, IsTrue, length, Some, slice_get, FitsSigned}
+use Rattle.std.specs.List.{AllZip}
 use Rattle.std.specs.Int.{w64}
 use Rattle.m5_terms.specs.declared.types.World.{World}
 use Rattle.m5_terms.specs.declared.form.LeafForm.TheVariants as leaf_form
@@ -9,17 +10,18 @@ use Rattle.m5_region.specs.Region.{Object}
 use Rattle.m5_machine.specs.Blocks.{Flat}
 use Rattle.m5_machine.specs.Body.{Body}
 use Rattle.m5_machine.specs.Block.{run_body}
-use Rattle.m5_cps.specs.Blocks.{Straight, constant, spawn}
+use Rattle.m5_cps.specs.Blocks.{Straight, constant, spawn, Test}
 use Rattle.m5_cps.specs.Captured.{straight_uses}
-use Rattle.m5_cps.specs.Deeds.{Ran, performed}
+use Rattle.m5_cps.specs.Deeds.{Ran, taking, performed, tested}
 use Rattle.m5_cps.specs.Asks.{goes_on}
 use Rattle.m5_cps.specs.Running.{last}
-use Rattle.m5_cps.specs.Values.{enter}
-use Rattle.m5_flat.specs.Values.{Closure, Site}
+use Rattle.m5_cps.specs.Values.{closed, enter}
+use Rattle.m5_cps.specs.Units.{closure_units}
+use Rattle.m5_flat.specs.Values.{Closure, under, Site, taken}
 use Rattle.m5_flat.specs.Values as flat
 use Rattle.m5_flat.specs.Fits.{IsPlain}
 use Rattle.m5_emit.specs.Represents.{Represents}
-use Rattle.m5_emit.specs.Emit.{Dialect, Rest, straight_body}
+use Rattle.m5_emit.specs.Emit.{Dialect, Rest, Way, straight_body, closure_body, test_body}
 use Rattle.m5_emit.specs.Follows.{Grows, Holds, MayEnter, IsSite, Follows}
 
 -- what stands for a value does so when there are more objects
@@ -55,3 +57,32 @@ StraightsFollow =
     (rest : Rest) (go_on : Site → flat.Value → Ran Closure) → MayRun code ρ f → ((x : ℕ) → IsTrue (straight_uses f x) → Holds bench (at x) (ρ x)) →
     IsSite total hs bench s → GoOn total hs (GoesOnWith u f ρ s) code bench rest go_on →
     Follows total hs (performed u f ρ s go_on) (run_body code (straight_body d u f at (length bench.slots) rest) bench)
+
+-- the closure that is made goes on, with the units that it takes
+abbrev pub IsClosure : List ℕ → ℕ → (ℕ → flat.Value) → Site → Site → flat.Value → Type 0
+IsClosure ls i ρ s new a = (new ≡ record s { units = s.units + closure_units (length ls) }) × (a ≡ closed (under i (length ls)) (taken ls ρ))
+
+abbrev pub ClosuresFollow : Type 0
+ClosuresFollow =
+    (total : ℕ) (hs : List Value) (code : Flat) (d : Dialect) (u : World) (ls : List ℕ) (i : ℕ) (at : ℕ → ℕ) (ρ : ℕ → flat.Value) (s : Site) (bench : Bench)
+    (rest : Rest) (go_on : Site → flat.Value → Ran Closure) → ((j l : ℕ) → slice_get ls j ≡ Some l → Holds bench (at l) (ρ l)) →
+    IsSite total hs bench s → GoOn total hs (IsClosure ls i ρ s) code bench rest go_on →
+    Follows total hs (taking (closure_units (length ls)) s (λ s1. go_on s1 (closed (under i (length ls)) (taken ls ρ))))
+    (run_body code (closure_body d u ls i at (length bench.slots) rest) bench)
+
+-- the test goes this way with these parts, whatever comes on either
+abbrev pub TakesWay : World → Test → flat.Value → Bool → List flat.Value → Type 0
+TakesWay u t a b parts = (this that : List flat.Value → Ran Closure) → tested u t a this that ≡ (if b then this parts else that parts)
+
+abbrev pub WayOn : ℕ → List Value → Flat → World → Test → flat.Value → Site → Bench → Bool → (List flat.Value → Ran Closure) → Way → Type 0
+WayOn total hs code u t a s old b go_on way =
+    (new : Bench) (slots : List ℕ) (parts : List flat.Value) → TakesWay u t a b parts → Grows old new → IsSite total hs new s → AllZip (Holds new) slots parts →
+    Follows total hs (go_on parts) (run_body code (way slots (length new.slots)) new)
+
+-- a test's instructions go the way that it goes, with its parts in slots
+abbrev pub TestsFollow : Type 0
+TestsFollow =
+    (total : ℕ) (hs : List Value) (code : Flat) (d : Dialect) (u : World) (t : Test) (x : ℕ) (a : flat.Value) (s : Site) (bench : Bench)
+    (this that : List flat.Value → Ran Closure) (first second : Way) → Holds bench x a → IsSite total hs bench s →
+    WayOn total hs code u t a s bench true this first → WayOn total hs code u t a s bench false that second →
+    Follows total hs (tested u t a this that) (run_body code (test_body d u t x (length bench.slots) first second) bench)

@@ -1,6 +1,6 @@
 //! The laws of emission, each on a function that does nothing.
 
-ghost use Rattle.m5_emit.specs.Laws.{StandsOn, StraightsFollow};
+ghost use Rattle.m5_emit.specs.Laws.{StandsOn, StraightsFollow, ClosuresFollow, TestsFollow};
 
 /// What stands for a value in a list of objects does so when objects are added.
 pub fn stands_on_holds()
@@ -11,4 +11,14 @@ pub fn stands_on_holds()
 /// and make an object of as many units just where the form does.
 pub fn straights_follow_holds()
     ensures { StraightsFollow }
+{}
+
+/// The instructions of a closure make an array of its label and of what it takes, with the units of the closure.
+pub fn closures_follow_holds()
+    ensures { ClosuresFollow }
+{}
+
+/// The instructions of a test go the way that it goes, with the parts of its value in slots.
+pub fn tests_follow_holds()
+    ensures { TestsFollow }
 {}
