@@ -8,3 +8,4 @@ pub mod Divided
 pub mod Whole
 pub mod Closures
 pub mod Tests
+pub mod Endings

@@ -27,14 +27,14 @@ use Rattle.m5_emit.proofs.Straights.{constants, firsts, seconds, texts, injected
 use Rattle.m5_emit.proofs.Tables.{new_cells, loads_on, stores_on, spawns_on}
 use Rattle.m5_emit.proofs.Divided.{divides}
 
-itself : (x : ℕ) → IsTrue (x == x)
+pub itself : (x : ℕ) → IsTrue (x == x)
 itself x = grind arith
 
-or_left : (a b : Bool) → IsTrue a → IsTrue (a || b)
+pub or_left : (a b : Bool) → IsTrue a → IsTrue (a || b)
 or_left true b h = refl
 or_left false b h = absurd (true≢false (sym h))
 
-or_right : (a b : Bool) → IsTrue b → IsTrue (a || b)
+pub or_right : (a b : Bool) → IsTrue b → IsTrue (a || b)
 or_right true b h = refl
 or_right false b h = h
 

@@ -1,8 +1,11 @@
 -- The laws of emission.
-use Rattle.std.specs.Prelude.{◌≡◌, ℕ, ◌+◌, List, ◌++◌, Bool, true, false, if◌then◌else◌, IsTrue, length, Some, slice_get, FitsSigned}
+use Rattle.std.specs.Prelude.{◌≡◌, ◌≢◌, ℕ, ◌+◌, Option, None, List, ◌++◌, Bool, true, false, if◌then◌else◌, IsTrue, length, Some, slice_get, FitsSigned}
 use Rattle.std.specs.List.{AllZip}
 use Rattle.std.specs.Int.{w64}
 use Rattle.m5_terms.specs.declared.types.World.{World}
+use Rattle.m5_terms.specs.declared.types.World.TheVariants.{Any}
+use Rattle.m5_terms.specs.declared.types.Primitive.{Primitive}
+use Rattle.m5_terms.specs.declared.types.Primitive.TheVariants as primitive
 use Rattle.m5_terms.specs.declared.form.LeafForm.TheVariants as leaf_form
 use Rattle.m5_region.specs.declared.value.Value.{Value}
 use Rattle.m5_region.specs.declared.bench.Bench.{Bench}
@@ -10,18 +13,20 @@ use Rattle.m5_region.specs.Region.{Object}
 use Rattle.m5_machine.specs.Blocks.{Flat}
 use Rattle.m5_machine.specs.Body.{Body}
 use Rattle.m5_machine.specs.Block.{run_body}
-use Rattle.m5_cps.specs.Blocks.{Straight, constant, spawn, Test}
-use Rattle.m5_cps.specs.Captured.{straight_uses}
+use Rattle.m5_cps.specs.Blocks.{Straight, constant, spawn, Test, Ending, go, call, ask, send, done}
+use Rattle.m5_cps.specs.Captured.{straight_uses, ending_uses}
 use Rattle.m5_cps.specs.Deeds.{Ran, taking, performed, tested}
 use Rattle.m5_cps.specs.Asks.{goes_on}
 use Rattle.m5_cps.specs.Running.{last}
-use Rattle.m5_cps.specs.Values.{closed, enter}
+use Rattle.m5_cps.specs.Values.{pair, atom, join, closed, enter}
 use Rattle.m5_cps.specs.Units.{closure_units}
+use Rattle.m5_flat.specs.Blocks.{Blocks}
+use Rattle.m5_flat.specs.Running.{primitive_of, ended}
 use Rattle.m5_flat.specs.Values.{Closure, under, Site, taken}
 use Rattle.m5_flat.specs.Values as flat
 use Rattle.m5_flat.specs.Fits.{IsPlain}
 use Rattle.m5_emit.specs.Represents.{Represents}
-use Rattle.m5_emit.specs.Emit.{Dialect, Rest, Way, straight_body, closure_body, test_body}
+use Rattle.m5_emit.specs.Emit.{Dialect, Rest, Way, straight_body, closure_body, test_body, ending_body}
 use Rattle.m5_emit.specs.Follows.{Grows, Holds, MayEnter, IsSite, Follows}
 
 -- what stands for a value does so when there are more objects
@@ -86,3 +91,36 @@ TestsFollow =
     (this that : List flat.Value → Ran Closure) (first second : Way) → Holds bench x a → IsSite total hs bench s →
     WayOn total hs code u t a s bench true this first → WayOn total hs code u t a s bench false that second →
     Follows total hs (tested u t a this that) (run_body code (test_body d u t x (length bench.slots) first second) bench)
+
+-- an ask's continuation, and a handler that it adds, are closures whose labels have blocks in this code
+abbrev pub HasHandler : Flat → Primitive → flat.Value → Type 0
+HasHandler code primitive.On (join pair a h) = MayEnter code h
+HasHandler code primitive.Watch (join pair a h) = MayEnter code h
+HasHandler code p a = Unit {0}
+
+abbrev pub MayAsk : Flat → Primitive → flat.Value → flat.Value → Type 0
+MayAsk code p a k = HasHandler code p a × MayEnter code k
+
+-- a function that is called is a primitive that may ask, or enters a block of this code
+abbrev pub MayCall : Flat → Option Primitive → flat.Value → flat.Value → flat.Value → Type 0
+MayCall code None f a k = MayEnter code f
+MayCall code (Some p) f a k = MayAsk code p a k
+
+-- what is sent goes to another world
+abbrev pub LeavesFrom : World → flat.Value → Type 0
+LeavesFrom u (atom (leaf_form.Addr v)) = (v ≢ u) × (v ≢ Any) × (u ≢ Any)
+LeavesFrom u a = Unit {0}
+
+abbrev pub MayEnd : Flat → Blocks → World → Ending → (ℕ → flat.Value) → Type 0
+MayEnd code B u (call f x k) ρ = MayCall code (primitive_of B (ρ f)) (ρ f) (ρ x) (ρ k)
+MayEnd code B u (ask p x k) ρ = MayAsk code p (ρ x) (ρ k)
+MayEnd code B u (send a k x) ρ = LeavesFrom u (ρ a)
+MayEnd code B u (go k x) ρ = Unit {0}
+MayEnd code B u done ρ = Unit {0}
+
+-- an ending's instructions end as it does, with what stands for its operands
+abbrev pub EndingsFollow : Type 0
+EndingsFollow =
+    (total : ℕ) (hs : List Value) (code : Flat) (d : Dialect) (u : World) (B : Blocks) (e : Ending) (at : ℕ → ℕ) (ρ : ℕ → flat.Value) (s : Site) (bench : Bench) →
+    MayEnd code B u e ρ → ((x : ℕ) → IsTrue (ending_uses e x) → Holds bench (at x) (ρ x)) → IsSite total hs bench s →
+    Follows total hs (ended B e ρ s) (run_body code (ending_body d u B.primitives e at (length bench.slots)) bench)

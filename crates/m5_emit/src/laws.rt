@@ -1,6 +1,6 @@
 //! The laws of emission, each on a function that does nothing.
 
-ghost use Rattle.m5_emit.specs.Laws.{StandsOn, StraightsFollow, ClosuresFollow, TestsFollow};
+ghost use Rattle.m5_emit.specs.Laws.{StandsOn, StraightsFollow, ClosuresFollow, TestsFollow, EndingsFollow};
 
 /// What stands for a value in a list of objects does so when objects are added.
 pub fn stands_on_holds()
@@ -21,4 +21,9 @@ pub fn closures_follow_holds()
 /// The instructions of a test go the way that it goes, with the parts of its value in slots.
 pub fn tests_follow_holds()
     ensures { TestsFollow }
+{}
+
+/// The instructions of an ending end as it does: they enter, call, ask, send or end the thread, with what stands for its operands.
+pub fn endings_follow_holds()
+    ensures { EndingsFollow }
 {}
