@@ -9,3 +9,4 @@ pub mod Whole
 pub mod Closures
 pub mod Tests
 pub mod Endings
+pub mod Bodies

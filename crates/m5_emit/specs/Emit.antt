@@ -18,7 +18,7 @@ use Rattle.m5_machine.specs.Body.{Body, Then, If, Go, Ask, Send, Done}
 use Rattle.m5_dictionary.specs.Dictionaries.{code_of_world}
 use Rattle.m5_cps.specs.Entries.{Entry, by_value, by_call}
 use Rattle.m5_cps.specs.Blocks.{Straight, constant, one, two, unheld, unsham, spawn, Test, if_true, if_left, if_nil, if_here, Ending, go, call, ask, send, done}
-use Rattle.m5_cps.specs.Values.{put}
+use Rattle.m5_cps.specs.Values.{put, put_all, filled_by}
 use Rattle.m5_flat.specs.Blocks.{Code, straight, closure, test, ends, Block, Named}
 
 -- the server's instructions tell equality of numbers from that of texts; the page's have one for both
@@ -155,21 +155,12 @@ module _ (d : Dialect) (u : World) where
   ending_body ps (send a k x) at m = sent_body (other_worlds u) (at a) (at k) (at x) m
   ending_body ps done at m = Done
 
-  -- the slots from n on stand at these places
-  abbrev pub put_places : ℕ → List ℕ → (ℕ → ℕ) → ℕ → ℕ
-  put_places n [] at = at
-  put_places n (p ∷ ps) at = put_places (suc n) ps (put n p at)
-
-  abbrev pub next_slot : List ℕ → ℕ → ℕ
-  next_slot [] n = n
-  next_slot (p ∷ ps) n = next_slot ps (suc n)
-
   -- a block's code with n slots, which stand at these places among m that are filled
   abbrev pub code_body : List Named → Code → ℕ → (ℕ → ℕ) → ℕ → Body
   code_body ps (straight f c) n at m = straight_body f at m (λ p k. code_body ps c (suc n) (put n p at) k)
   code_body ps (closure ls i c) n at m = closure_body ls i at m (λ p k. code_body ps c (suc n) (put n p at) k)
   code_body ps (test t x b c) n at m =
-      test_body t (at x) m (λ qs k. code_body ps b (next_slot qs n) (put_places n qs at) k) (λ qs k. code_body ps c (next_slot qs n) (put_places n qs at) k)
+      test_body t (at x) m (λ qs k. code_body ps b (filled_by qs n) (put_all n qs at) k) (λ qs k. code_body ps c (filled_by qs n) (put_all n qs at) k)
   code_body ps (ends e) n at m = ending_body ps e at m
 
   -- the closure is in slot 0, and in slot 1 the argument, or the array of a call; what the closure has taken stands from slot 2 on

@@ -1,5 +1,5 @@
 -- The laws of emission.
-use Rattle.std.specs.Prelude.{◌≡◌, ◌≢◌, ℕ, ◌+◌, Option, None, List, ◌++◌, Bool, true, false, if◌then◌else◌, IsTrue, length, Some, slice_get, FitsSigned}
+use Rattle.std.specs.Prelude.{◌≡◌, ◌≢◌, ℕ, suc, ◌+◌, ◌<◌, Option, None, List, ◌++◌, Bool, true, false, if◌then◌else◌, IsTrue, length, Some, slice_get, FitsSigned}
 use Rattle.std.specs.List.{AllZip}
 use Rattle.std.specs.Int.{w64}
 use Rattle.m5_terms.specs.declared.types.World.{World}
@@ -18,15 +18,15 @@ use Rattle.m5_cps.specs.Captured.{straight_uses, ending_uses}
 use Rattle.m5_cps.specs.Deeds.{Ran, taking, performed, tested}
 use Rattle.m5_cps.specs.Asks.{goes_on}
 use Rattle.m5_cps.specs.Running.{last}
-use Rattle.m5_cps.specs.Values.{pair, atom, join, closed, enter}
+use Rattle.m5_cps.specs.Values.{pair, atom, join, closed, enter, put, put_all, filled_by}
 use Rattle.m5_cps.specs.Units.{closure_units}
-use Rattle.m5_flat.specs.Blocks.{Blocks}
-use Rattle.m5_flat.specs.Running.{primitive_of, ended}
+use Rattle.m5_flat.specs.Blocks.{Code, straight, closure, test, ends, Blocks}
+use Rattle.m5_flat.specs.Running.{primitive_of, ended, run}
 use Rattle.m5_flat.specs.Values.{Closure, under, Site, taken}
 use Rattle.m5_flat.specs.Values as flat
 use Rattle.m5_flat.specs.Fits.{IsPlain}
 use Rattle.m5_emit.specs.Represents.{Represents}
-use Rattle.m5_emit.specs.Emit.{Dialect, Rest, Way, straight_body, closure_body, test_body, ending_body}
+use Rattle.m5_emit.specs.Emit.{Dialect, Rest, Way, straight_body, closure_body, test_body, ending_body, code_body}
 use Rattle.m5_emit.specs.Follows.{Grows, Holds, MayEnter, IsSite, Follows}
 
 -- what stands for a value does so when there are more objects
@@ -124,3 +124,28 @@ EndingsFollow =
     (total : ℕ) (hs : List Value) (code : Flat) (d : Dialect) (u : World) (B : Blocks) (e : Ending) (at : ℕ → ℕ) (ρ : ℕ → flat.Value) (s : Site) (bench : Bench) →
     MayEnd code B u e ρ → ((x : ℕ) → IsTrue (ending_uses e x) → Holds bench (at x) (ρ x)) → IsSite total hs bench s →
     Follows total hs (ended B e ρ s) (run_body code (ending_body d u B.primitives e at (length bench.slots)) bench)
+
+-- the code may run from these slots: it names slots that are filled, and each form and the ending may be done as it comes to them
+module _ (code : Flat) (B : Blocks) (u : World) where
+  abbrev pub MayGo : Code → ℕ → (ℕ → flat.Value) → Site → Type 0
+  MayGo (straight f c) n ρ s =
+      MayRun code ρ f × ((x : ℕ) → IsTrue (straight_uses f x) → x < n)
+      × ((new : Site) (a : flat.Value) → GoesOnWith u f ρ s new a → MayGo c (suc n) (put n a ρ) new)
+  MayGo (closure ls i c) n ρ s =
+      ((j l : ℕ) → slice_get ls j ≡ Some l → l < n)
+      × MayGo c (suc n) (put n (closed (under i (length ls)) (taken ls ρ)) ρ) (record s { units = s.units + closure_units (length ls) })
+  MayGo (test t x b c) n ρ s =
+      (x < n) × ((parts : List flat.Value) → TakesWay u t (ρ x) true parts → MayGo b (filled_by parts n) (put_all n parts ρ) s)
+      × ((parts : List flat.Value) → TakesWay u t (ρ x) false parts → MayGo c (filled_by parts n) (put_all n parts ρ) s)
+  MayGo (ends e) n ρ s = ((x : ℕ) → IsTrue (ending_uses e x) → x < n) × MayEnd code B u e ρ
+
+-- n slots are held at these places
+abbrev pub AreHeld : Bench → (ℕ → ℕ) → ℕ → (ℕ → flat.Value) → Type 0
+AreHeld bench at n ρ = (l : ℕ) → l < n → Holds bench (at l) (ρ l)
+
+-- a block's body follows its code: it makes the same objects with the same units, and ends alike
+abbrev pub BodiesFollow : Type 0
+BodiesFollow =
+    (total : ℕ) (hs : List Value) (code : Flat) (d : Dialect) (u : World) (B : Blocks) (c : Code) (n : ℕ) (at : ℕ → ℕ) (ρ : ℕ → flat.Value) (s : Site) (bench : Bench) →
+    MayGo code B u c n ρ s → AreHeld bench at n ρ → IsSite total hs bench s →
+    Follows total hs (run B u c n ρ s) (run_body code (code_body d u B.primitives c n at (length bench.slots)) bench)

@@ -1,6 +1,6 @@
 //! The laws of emission, each on a function that does nothing.
 
-ghost use Rattle.m5_emit.specs.Laws.{StandsOn, StraightsFollow, ClosuresFollow, TestsFollow, EndingsFollow};
+ghost use Rattle.m5_emit.specs.Laws.{StandsOn, StraightsFollow, ClosuresFollow, TestsFollow, EndingsFollow, BodiesFollow};
 
 /// What stands for a value in a list of objects does so when objects are added.
 pub fn stands_on_holds()
@@ -26,4 +26,9 @@ pub fn tests_follow_holds()
 /// The instructions of an ending end as it does: they enter, call, ask, send or end the thread, with what stands for its operands.
 pub fn endings_follow_holds()
     ensures { EndingsFollow }
+{}
+
+/// A block's body follows its code, where that may run: it makes objects of as many units where the code does, and ends alike.
+pub fn bodies_follow_holds()
+    ensures { BodiesFollow }
 {}
