@@ -1,5 +1,5 @@
 -- A block's body follows its code.
-use Rattle.std.proofs.Common.{◌≡◌, ◌+◌, ◌<◌, ◌==◌, ℕ, suc, Bool, true, false, if◌then◌else◌, IsTrue, List, [], ◌∷◌, length, Some, slice_get, refl, sym, ap, subst, ◌∙◌, arith}
+use Rattle.std.proofs.Common.{◌≡◌, ◌+◌, ◌==◌, ℕ, suc, Bool, true, false, if◌then◌else◌, List, [], ◌∷◌, length, refl, sym, subst, arith}
 use Rattle.std.specs.List.{AllZip}
 use Rattle.m5_terms.specs.declared.types.World.{World}
 use Rattle.m5_region.specs.declared.value.Value.{Value}
@@ -7,7 +7,7 @@ use Rattle.m5_region.specs.declared.bench.Bench.{Bench}
 use Rattle.m5_machine.specs.Blocks.{Flat}
 use Rattle.m5_machine.specs.Block.{run_body}
 use Rattle.m5_cps.specs.Blocks.{Straight, Test}
-use Rattle.m5_cps.specs.Values.{closed, put, put_all, filled_by}
+use Rattle.m5_cps.specs.Values.{put, put_all, filled_by}
 use Rattle.m5_cps.specs.Units.{closure_units}
 use Rattle.m5_flat.specs.Blocks.{Code, straight, closure, test, ends, Blocks}
 use Rattle.m5_flat.specs.Running.{run}
@@ -15,7 +15,7 @@ use Rattle.m5_flat.specs.Values.{under, Site, taken}
 use Rattle.m5_flat.specs.Values as flat
 use Rattle.m5_emit.specs.Emit.{Dialect, code_body}
 use Rattle.m5_emit.specs.Follows.{Grows, Holds, IsSite, Follows}
-use Rattle.m5_emit.specs.Laws.{IsClosure, TakesWay, MayGo, AreHeld, BodiesFollow}
+use Rattle.m5_emit.specs.Laws.{IsClosure, MayGo, AreHeld, BodiesFollow}
 use Rattle.m5_emit.proofs.Instructions.{holds_on}
 use Rattle.m5_emit.proofs.Whole.{straights_follow}
 use Rattle.m5_emit.proofs.Closures.{closures_follow}

@@ -1,5 +1,5 @@
 -- The instructions of a closure follow it.
-use Rattle.std.proofs.Common.{◌≡◌, ◌+◌, ℕ, zero, suc, pos, List, [], ◌∷◌, ◌++◌, map, length, Some, slice_get, refl, sym, ap, subst, arith}
+use Rattle.std.proofs.Common.{◌≡◌, ℕ, zero, suc, pos, List, [], ◌∷◌, map, length, Some, slice_get, refl, ap, subst, arith}
 use Rattle.std.specs.List.{AllZip}
 use Rattle.m5_region.specs.declared.value.Value.{Value}
 use Rattle.m5_region.specs.declared.value.Value.TheVariants as values

@@ -1,5 +1,5 @@
 -- The instructions of a division follow it.
-use Rattle.std.proofs.Common.{◌≡◌, ◌≢◌, inl, ◌+◌, ℕ, zero, suc, ℤ, pos, Bool, true, false, if◌then◌else◌, List, [], ◌∷◌, ◌++◌, length, Option, Some, None, slice_get, refl, sym, ap, subst, ◌∙◌, arith, true≢false, FitsSigned, w64}
+use Rattle.std.proofs.Common.{◌≡◌, ◌≢◌, inl, ◌+◌, ℕ, ℤ, pos, Bool, true, false, if◌then◌else◌, List, [], ◌∷◌, ◌++◌, length, Some, None, slice_get, refl, ap, subst, ◌∙◌, arith, true≢false, w64}
 use Rattle.std.proofs.lemmas.Int.{SFits-int_wrap}
 use Rattle.std.specs.Ordering.{int_eq}
 use Rattle.std.specs.Int.{int_wrapping_div}
@@ -18,12 +18,11 @@ use Rattle.m5_machine.specs.declared.made.Made.TheVariants.{Gives}
 use Rattle.m5_machine.specs.Blocks.{Flat}
 use Rattle.m5_machine.specs.Body.{Body, Then, If}
 use Rattle.m5_machine.specs.Operand.{with_one, int_in}
-use Rattle.m5_machine.specs.Table.{made, given}
+use Rattle.m5_machine.specs.Table.{given}
 use Rattle.m5_machine.specs.Table.{quotient as quotient_in}
 use Rattle.m5_machine.specs.Block.{run_body}
 use Rattle.m5_cps.specs.Values.{Wrap, left, right, pair, atom, wrap, join, unit_value}
 use Rattle.m5_cps.specs.Made.{gives, divided}
-use Rattle.m5_cps.specs.Made as cps
 use Rattle.m5_cps.specs.Deeds.{Ran, taking, did}
 use Rattle.m5_cps.specs.Running.{last}
 use Rattle.m5_flat.specs.Values.{Closure, Site}

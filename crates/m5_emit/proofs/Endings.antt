@@ -1,8 +1,7 @@
 -- The instructions of an ending end as it does.
-use Rattle.std.proofs.Common.{◌≡◌, ◌≢◌, ◌⊎◌, inl, inr, ◌+◌, ◌==◌, ◌&&◌, ◌||◌, ℕ, suc, ℤ, pos, Bool, true, false, nat_le, if◌then◌else◌, IsTrue, List, [], ◌∷◌, ◌++◌, length, Option, Some, None, slice_get, refl, sym, ap, subst, ◌∙◌, arith, true≢false}
+use Rattle.std.proofs.Common.{◌≡◌, ◌≢◌, ◌⊎◌, inl, inr, ◌+◌, ◌==◌, ◌&&◌, ◌||◌, ℕ, ℤ, pos, Bool, true, false, if◌then◌else◌, List, [], ◌∷◌, ◌++◌, length, Some, slice_get, refl, sym, ap, subst, ◌∙◌, arith, true≢false}
 use Rattle.std.proofs.lemmas.Bool.Decides.{Decides-eqb, Decides-int_eq}
 use Rattle.std.specs.Ordering.{int_eq}
-use Rattle.std.specs.List.{AllZip}
 use Rattle.m5_terms.specs.TypeExpression.{same_world}
 use Rattle.m5_terms.specs.Machine.{goes, asks}
 use Rattle.m5_terms.specs.declared.ask.AskOf.{AskOf}
@@ -13,7 +12,6 @@ use Rattle.m5_terms.specs.declared.types.Primitive.{Primitive}
 use Rattle.m5_terms.specs.declared.types.Primitive.TheVariants as primitive
 use Rattle.m5_terms.specs.declared.form.LeafForm.TheVariants as leaf_form
 use Rattle.m5_meaning.specs.Step.{is_full}
-use Rattle.m5_region.specs.declared.value.Ref.{Ref}
 use Rattle.m5_region.specs.declared.value.Value.{Value}
 use Rattle.m5_region.specs.declared.value.Value.TheVariants as values
 use Rattle.m5_region.specs.declared.bench.Bench.{Bench}
@@ -25,26 +23,24 @@ use Rattle.m5_machine.specs.Blocks.{Flat}
 use Rattle.m5_machine.specs.Body.{Body, Then, If, Go, Ask, Send, Done}
 use Rattle.m5_machine.specs.Closure.{is_closure}
 use Rattle.m5_machine.specs.Primitive.{takes, is_text, two_parts, two_in, both_fit}
-use Rattle.m5_machine.specs.Table.{in_region, added, given, part}
+use Rattle.m5_machine.specs.Table.{in_region, added, given}
 use Rattle.m5_machine.specs.Block.{run_body, of_values, asking}
 use Rattle.m5_dictionary.specs.Dictionaries.{code_of_world}
-use Rattle.m5_cps.specs.Blocks.{Ending, go, call, ask, send, done}
-use Rattle.m5_cps.specs.Captured.{ending_uses}
+use Rattle.m5_cps.specs.Blocks.{go, call, ask, send, done}
 use Rattle.m5_cps.specs.Values.{pair, atom, wrap, join, closed, enter, text_value, unit_value}
 use Rattle.m5_cps.specs.Values as value
-use Rattle.m5_cps.specs.Units.{array_units}
-use Rattle.m5_cps.specs.Deeds.{Ran, ends, taking, stops_full}
+use Rattle.m5_cps.specs.Deeds.{Ran, ends, stops_full}
 use Rattle.m5_cps.specs.Asks.{after_done, asked, sent, goes_on, adds_handler}
 use Rattle.m5_flat.specs.Blocks.{Named, Blocks, primitive_at}
-use Rattle.m5_flat.specs.Running.{primitive_of, asks_or_calls, ended}
+use Rattle.m5_flat.specs.Running.{primitive_of, asks_or_calls}
 use Rattle.m5_flat.specs.Values.{Closure, under, Site}
 use Rattle.m5_flat.specs.Values as flat
-use Rattle.m5_emit.specs.Represents.{IsTextOf, IsArrayOf, Represents, IsThread}
+use Rattle.m5_emit.specs.Represents.{IsTextOf, IsArrayOf, IsThread}
 use Rattle.m5_emit.specs.Emit.{Dialect, equal_ints, code_of_primitive, called_body, sent_body, other_worlds}
-use Rattle.m5_emit.specs.Follows.{Holds, MayEnter, IsSite, EndsWith, EndsAs, Follows}
+use Rattle.m5_emit.specs.Follows.{Holds, MayEnter, IsSite, EndsAs, Follows}
 use Rattle.m5_emit.specs.Laws.{MayAsk, MayCall, LeavesFrom, EndingsFollow}
 use Rattle.m5_emit.proofs.Standing.{got_on, got_last, stands_on}
-use Rattle.m5_emit.proofs.Instructions.{one_longer, array_is, part_is, with_slot, with_new, slot_grows, new_grows, holds_on, slot_fits, then_on, object_on, chosen}
+use Rattle.m5_emit.proofs.Instructions.{one_longer, array_is, part_is, with_slot, with_new, slot_grows, holds_on, slot_fits, then_on, object_on, chosen}
 use Rattle.m5_emit.proofs.Operands.{equals_at}
 use Rattle.m5_emit.proofs.Tables.{is_entered}
 use Rattle.m5_emit.proofs.Tests.{same_number}

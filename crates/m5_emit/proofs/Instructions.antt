@@ -1,12 +1,12 @@
 -- What one instruction makes, and how the run goes on.
-use Rattle.std.proofs.Common.{◌≡◌, ◌⊎◌, inl, inr, ◌<◌, ◌≤◌, ◌+◌, ◌-◌, ℕ, zero, suc, Bool, true, false, nat_lt, if◌then◌else◌, List, [], ◌∷◌, ◌++◌, length, map, Option, Some, None, is_some, unwrap_or, ◌&&◌, slice_get, refl, sym, ap, subst, ◌∙◌, arith, append_assoc, append-nil}
+use Rattle.std.proofs.Common.{◌≡◌, inl, inr, ◌<◌, ◌≤◌, ◌+◌, ◌-◌, ℕ, suc, Bool, true, false, nat_lt, if◌then◌else◌, List, [], ◌∷◌, ◌++◌, length, map, Some, None, is_some, unwrap_or, ◌&&◌, slice_get, refl, sym, ap, subst, ◌∙◌, arith, append_assoc, append-nil}
 use Rattle.std.proofs.lemmas.Bool.{ltb-true, ltb-false}
 use Rattle.std.specs.List.{AllZip, list_all}
 use Rattle.m5_region.specs.declared.value.Ref.{Ref}
 use Rattle.m5_region.specs.declared.value.Value.{Value}
 use Rattle.m5_region.specs.declared.value.Value.TheVariants as values
 use Rattle.m5_region.specs.declared.bench.Bench.{Bench}
-use Rattle.m5_region.specs.Region.{Object, ArrayOf, TextOf, units_of, fields_in, field_of, place_in, text_of}
+use Rattle.m5_region.specs.Region.{Object, ArrayOf, units_of, fields_in, field_of, place_in, text_of}
 use Rattle.m5_machine.specs.declared.step.Instruction.{Instruction}
 use Rattle.m5_machine.specs.declared.step.Instruction.TheVariants as instructions
 use Rattle.m5_machine.specs.declared.made.Made.{Made}
@@ -18,7 +18,7 @@ use Rattle.m5_machine.specs.Body.{Body, Then, If}
 use Rattle.m5_machine.specs.Operand.{with_one, bool_in, array_in, text_at, text_in}
 use Rattle.m5_machine.specs.Table.{made, in_region, with_object, added, array_of, is_filled, value_at, part}
 use Rattle.m5_machine.specs.Block.{run_body, and_then, fill_with, choice}
-use Rattle.m5_cps.specs.Deeds.{Ran, makes, ends, taking}
+use Rattle.m5_cps.specs.Deeds.{Ran, taking}
 use Rattle.m5_cps.specs.Running.{last}
 use Rattle.m5_flat.specs.Values.{Closure, Site}
 use Rattle.m5_flat.specs.Values as flat

@@ -1,5 +1,5 @@
 -- What two operands are to an instruction.
-use Rattle.std.proofs.Common.{◌≡◌, ℕ, ℤ, List, Option, Some, None, slice_get, bytes_eq, refl, ap, ◌∙◌}
+use Rattle.std.proofs.Common.{◌≡◌, ℕ, ℤ, List, Some, None, slice_get, bytes_eq, refl, ap, ◌∙◌}
 use Rattle.std.specs.Ordering.{int_eq}
 use Rattle.m5_terms.specs.declared.form.LeafForm.TheVariants as leaf_form
 use Rattle.m5_region.specs.declared.value.Value.{Value}
@@ -45,7 +45,6 @@ module _ (code : Flat) (bench : Bench) (x y : ℕ) where
   pub equals_texts : (e : Dialect) (n k : List ℕ) → Holds bench x (atom (leaf_form.Str n)) → Holds bench y (atom (leaf_form.Str k)) → made code (equal_texts e x y) bench ≡ (Gives (values.Bool (bytes_eq n k)), bench)
   equals_texts bytecode n k p q = ap (given bench) (both_texts bench x y _ n k p q)
   equals_texts script n k p q = ap (λ o. given bench (first_there o (equal_texts_in bench.region.objects bench.slots x y))) (no_ints bench x y _ n p) ∙ ap (given bench) (both_texts bench x y _ n k p q)
-
 
   -- two numbers in slots
   pub equals_at : (e : Dialect) (n k : ℤ) → slice_get bench.slots x ≡ Some (values.Int n) → slice_get bench.slots y ≡ Some (values.Int k) → made code (equal_ints e x y) bench ≡ (Gives (values.Bool (int_eq n k)), bench)

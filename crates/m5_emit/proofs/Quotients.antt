@@ -1,5 +1,5 @@
 -- The machine's quotient is the wrapped one.
-use Rattle.std.proofs.Common.{◌≡◌, ◌≢◌, ◌<◌, ◌≤◌, ◌/◌, ◌∙◌, ℕ, zero, suc, Bool, true, false, nat_lt, refl, sym, ap, subst, w64, FitsSigned, arith}
+use Rattle.std.proofs.Common.{◌≡◌, ◌≢◌, ◌<◌, ◌≤◌, ◌/◌, ◌∙◌, ℕ, zero, suc, Bool, true, false, nat_lt, refl, sym, subst, w64, FitsSigned, arith}
 use Rattle.std.specs.Prelude.{ℤ, pos, negsuc, int_div}
 use Rattle.std.specs.Int.{int_wrap, int_wrapping_div}
 use Rattle.std.specs.Int.RustNames.{unsigned_abs}

@@ -1,12 +1,12 @@
 -- What stands for a value does so when there are more objects.
-use Rattle.std.proofs.Common.{◌≡◌, ℕ, zero, suc, List, [], ◌∷◌, ◌++◌, length, Option, Some, None, slice_get, refl, sym, ap, subst, ◌∙◌}
+use Rattle.std.proofs.Common.{◌≡◌, ℕ, zero, suc, List, [], ◌∷◌, ◌++◌, length, Option, Some, None, slice_get, refl, ap}
 use Rattle.std.specs.List.{AllZip}
 use Rattle.m5_terms.specs.declared.form.LeafForm.{LeafForm}
 use Rattle.m5_terms.specs.declared.form.LeafForm.TheVariants as leaf_form
 use Rattle.m5_region.specs.declared.value.Value.{Value}
 use Rattle.m5_region.specs.declared.value.Value.TheVariants as values
 use Rattle.m5_region.specs.declared.queue.Ready.{Ready}
-use Rattle.m5_region.specs.Region.{Object, ArrayOf, TextOf, bytes_in, fields_in, text_of, fields_of}
+use Rattle.m5_region.specs.Region.{Object, ArrayOf, TextOf, bytes_in, fields_in}
 use Rattle.m5_cps.specs.Values.{left, right, held, sham, pair, cons, atom, wrap, join, closed, enter, call}
 use Rattle.m5_flat.specs.Values.{under, Thread}
 use Rattle.m5_flat.specs.Values as flat

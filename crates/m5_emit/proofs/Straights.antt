@@ -1,9 +1,7 @@
 -- The instructions of a straight form follow it.
-use Rattle.std.proofs.Common.{◌≡◌, ◌≢◌, ◌⊎◌, inl, inr, ◌<◌, ◌≤◌, ◌+◌, ◌/◌, ◌||◌, ◌==◌, ℕ, zero, suc, ℤ, pos, negsuc, Bool, true, false, IsTrue, nat_lt, nat_le, if◌then◌else◌, List, [], ◌∷◌, ◌++◌, length, Option, Some, None, slice_get, bytes_eq, int_lt, refl, sym, ap, subst, ◌∙◌, arith, append-nil, FitsSigned, w64}
-use Rattle.std.proofs.lemmas.Bool.{ltb-true, ltb-false}
+use Rattle.std.proofs.Common.{◌≡◌, ◌+◌, ℕ, suc, pos, Bool, true, false, List, [], ◌∷◌, ◌++◌, length, Some, bytes_eq, int_lt, refl, sym, ap, ◌∙◌, arith, append-nil, w64}
 use Rattle.std.proofs.lemmas.Int.{SFits-int_wrap, wrapping_add_is, wrapping_sub_is, wrapping_mul_is}
 use Rattle.std.specs.Ordering.{int_eq}
-use Rattle.std.specs.List.{AllZip}
 use Rattle.std.specs.Fmt.{signed_decimal}
 use Rattle.std.specs.Int.{int_wrap}
 use Rattle.std.specs.Prelude.{◌+ℤ◌, ◌-ℤ◌, ◌*ℤ◌}
@@ -12,34 +10,30 @@ use Rattle.m5_terms.specs.declared.types.Op.{Op}
 use Rattle.m5_terms.specs.declared.types.Op.TheVariants as op
 use Rattle.m5_terms.specs.declared.form.LeafForm.{LeafForm}
 use Rattle.m5_terms.specs.declared.form.LeafForm.TheVariants as leaf_form
-use Rattle.m5_terms.specs.declared.form.UnaryForm.{UnaryForm}
 use Rattle.m5_terms.specs.declared.form.UnaryForm.TheVariants as unary_form
-use Rattle.m5_terms.specs.declared.form.BinaryForm.{BinaryForm}
 use Rattle.m5_terms.specs.declared.form.BinaryForm.TheVariants as binary_form
 use Rattle.m5_region.specs.declared.value.Value.{Value}
 use Rattle.m5_region.specs.declared.value.Value.TheVariants as values
 use Rattle.m5_region.specs.declared.bench.Bench.{Bench}
-use Rattle.m5_region.specs.Region.{Object, ArrayOf, TextOf, units_of, bytes_in}
+use Rattle.m5_region.specs.Region.{Object, TextOf, units_of, bytes_in}
 use Rattle.m5_machine.specs.declared.step.Instruction.{Instruction}
 use Rattle.m5_machine.specs.declared.step.Instruction.TheVariants as instructions
 use Rattle.m5_machine.specs.declared.made.Made.TheVariants.{Gives}
 use Rattle.m5_machine.specs.Blocks.{Flat}
 use Rattle.m5_machine.specs.Body.{Body, Then}
-use Rattle.m5_machine.specs.Operand.{with_one, with_two, int_in, text_at}
-use Rattle.m5_machine.specs.Table.{made, given, value_or_none, in_region, added, part, first_there, of_texts}
-use Rattle.m5_machine.specs.Table.{equal_texts as equal_texts_in}
+use Rattle.m5_machine.specs.Operand.{with_one, with_two, text_at}
+use Rattle.m5_machine.specs.Table.{made, given, in_region, added}
 use Rattle.m5_machine.specs.Block.{run_body}
 use Rattle.m5_dictionary.specs.Dictionaries.{code_of_world}
 use Rattle.m5_cps.specs.Blocks.{constant}
-use Rattle.m5_cps.specs.Values.{Wrap, left, right, held, sham, pair, cons, atom, wrap, join, closed, text_value, unit_value}
+use Rattle.m5_cps.specs.Values.{Wrap, held, sham, pair, cons, atom, wrap, join, text_value}
 use Rattle.m5_cps.specs.Units.{text_units}
-use Rattle.m5_cps.specs.Made.{gives, makes_text, fails, first_of, second_of, text_of, operated, made_by_one, made_by_two, one_units, two_units}
-use Rattle.m5_cps.specs.Made as cps
-use Rattle.m5_cps.specs.Deeds.{Ran, taking, did, did_taking, performed, opened_held, opened_sham}
+use Rattle.m5_cps.specs.Made.{first_of, second_of, text_of, operated, one_units, two_units}
+use Rattle.m5_cps.specs.Deeds.{Ran, taking, did_taking, performed, opened_held, opened_sham}
 use Rattle.m5_flat.specs.Values.{Closure, Site}
 use Rattle.m5_flat.specs.Values as flat
-use Rattle.m5_emit.specs.Represents.{IsTextOf, IsArrayOf, LeafIs, Represents}
-use Rattle.m5_emit.specs.Emit.{Dialect, bytecode, script, Rest, by, tagged, straight_body, operation, equal_ints, equal_texts}
+use Rattle.m5_emit.specs.Represents.{IsArrayOf, Represents}
+use Rattle.m5_emit.specs.Emit.{Dialect, Rest, tagged, straight_body, operation, equal_ints, equal_texts}
 use Rattle.m5_emit.specs.Follows.{Grows, Holds, IsSite, Follows}
 use Rattle.m5_emit.specs.Laws.{GoOn, MayRun}
 use Rattle.m5_emit.proofs.Standing.{got_last, stands_on}

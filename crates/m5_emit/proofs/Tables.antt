@@ -1,5 +1,5 @@
 -- The instructions of a form on a cell, or of one that begins a thread, follow it.
-use Rattle.std.proofs.Common.{◌≡◌, ◌<◌, ◌≤◌, ◌+◌, ℕ, zero, suc, pos, Bool, true, false, nat_lt, nat_le, if◌then◌else◌, List, [], ◌∷◌, ◌++◌, length, Option, Some, None, is_some, slice_get, slice_set, refl, sym, ap, subst, ◌∙◌, arith, append-nil}
+use Rattle.std.proofs.Common.{◌≡◌, ◌<◌, ◌≤◌, ℕ, zero, suc, pos, Bool, true, false, nat_lt, nat_le, if◌then◌else◌, List, [], ◌∷◌, ◌++◌, length, Option, Some, None, is_some, slice_get, slice_set, refl, sym, ap, subst, ◌∙◌, arith, append-nil}
 use Rattle.std.proofs.lemmas.Bool.{ltb-true, ltb-false, leb-true, leb-false}
 use Rattle.std.specs.List.{AllZip}
 use Rattle.m5_terms.specs.TypeExpression.{same_world}
@@ -8,17 +8,14 @@ use Rattle.m5_terms.specs.declared.form.LeafForm.TheVariants as leaf_form
 use Rattle.m5_region.specs.declared.value.Value.{Value}
 use Rattle.m5_region.specs.declared.value.Value.TheVariants as values
 use Rattle.m5_region.specs.declared.bench.Bench.{Bench}
-use Rattle.m5_region.specs.declared.queue.Ready.{Ready}
-use Rattle.m5_region.specs.Region.{Object, field_of, place_in}
+use Rattle.m5_region.specs.Region.{Object, place_in}
 use Rattle.m5_machine.specs.declared.step.Instruction.{Instruction}
 use Rattle.m5_machine.specs.declared.step.Instruction.TheVariants as instructions
 use Rattle.m5_machine.specs.declared.made.Made.TheVariants.{Gives, NoTable}
-use Rattle.m5_machine.specs.declared.next.Next.{Next}
-use Rattle.m5_machine.specs.declared.next.Next.TheVariants.{FullTable}
 use Rattle.m5_machine.specs.Blocks.{Flat, start_of}
 use Rattle.m5_machine.specs.Body.{Body, Then}
 use Rattle.m5_machine.specs.Operand.{with_one, int_in}
-use Rattle.m5_machine.specs.Closure.{entry, entry_at, label_in, is_closure}
+use Rattle.m5_machine.specs.Closure.{entry_at, label_in, is_closure}
 use Rattle.m5_machine.specs.Table.{made, given, in_cells, in_threads, new_cell, cell_place, place_in as cell_in, set_cell, new_thread, new_thread_if}
 use Rattle.m5_machine.specs.Block.{run_body}
 use Rattle.m5_cps.specs.Values.{atom, wrap, join, closed, enter, unit_value}
@@ -27,12 +24,11 @@ use Rattle.m5_cps.specs.Deeds.{Ran, did, loaded, stored, spawned, stops_full}
 use Rattle.m5_cps.specs.Running.{last}
 use Rattle.m5_flat.specs.Values.{Closure, under, Site, Thread}
 use Rattle.m5_flat.specs.Values as flat
-use Rattle.m5_emit.specs.Represents.{Represents, IsThread, IsArrayOf}
+use Rattle.m5_emit.specs.Represents.{Represents, IsThread}
 use Rattle.m5_emit.specs.Emit.{Rest}
-use Rattle.m5_emit.specs.Follows.{Grows, Holds, MayEnter, IsSite, Follows}
+use Rattle.m5_emit.specs.Follows.{Holds, MayEnter, IsSite, Follows}
 use Rattle.m5_emit.specs.Laws.{marked, GoOn}
-use Rattle.m5_emit.proofs.Standing.{got_on, got_last}
-use Rattle.m5_emit.proofs.Instructions.{Hands, with_slot, slot_grows, gives_on, then_on, finish_on, run_table}
+use Rattle.m5_emit.proofs.Instructions.{Hands, gives_on, then_on, finish_on, run_table}
 
 is_lt : (a b : ℕ) → a < b → nat_lt a b ≡ true
 is_lt a b h = by_test (nat_lt a b) refl

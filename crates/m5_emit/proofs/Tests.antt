@@ -1,5 +1,5 @@
 -- The instructions of a test go the way that it goes.
-use Rattle.std.proofs.Common.{◌≡◌, ◌+◌, ℕ, zero, suc, pos, Bool, true, false, if◌then◌else◌, List, [], ◌∷◌, ◌++◌, length, Some, slice_get, refl, sym, ap, subst, ◌∙◌, arith, append-nil, true≢false}
+use Rattle.std.proofs.Common.{◌≡◌, ◌+◌, ℕ, pos, Bool, true, false, if◌then◌else◌, List, [], ◌∷◌, ◌++◌, length, Some, slice_get, refl, sym, ap, subst, ◌∙◌, arith, append-nil, true≢false}
 use Rattle.std.specs.Ordering.{int_eq}
 use Rattle.std.specs.List.{AllZip}
 use Rattle.m5_terms.specs.TypeExpression.{same_world}
@@ -11,7 +11,7 @@ use Rattle.m5_region.specs.declared.value.Value.TheVariants as values
 use Rattle.m5_region.specs.declared.bench.Bench.{Bench}
 use Rattle.m5_machine.specs.declared.step.Instruction.TheVariants as instructions
 use Rattle.m5_machine.specs.Blocks.{Flat}
-use Rattle.m5_machine.specs.Body.{Body, Then, If}
+use Rattle.m5_machine.specs.Body.{Body, Then}
 use Rattle.m5_machine.specs.Table.{given, part}
 use Rattle.m5_machine.specs.Block.{run_body}
 use Rattle.m5_dictionary.specs.Dictionaries.{code_of_world}

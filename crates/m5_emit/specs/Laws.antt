@@ -11,7 +11,6 @@ use Rattle.m5_region.specs.declared.value.Value.{Value}
 use Rattle.m5_region.specs.declared.bench.Bench.{Bench}
 use Rattle.m5_region.specs.Region.{Object}
 use Rattle.m5_machine.specs.Blocks.{Flat}
-use Rattle.m5_machine.specs.Body.{Body}
 use Rattle.m5_machine.specs.Block.{run_body}
 use Rattle.m5_cps.specs.Blocks.{Straight, constant, spawn, Test, Ending, go, call, ask, send, done}
 use Rattle.m5_cps.specs.Captured.{straight_uses, ending_uses}
