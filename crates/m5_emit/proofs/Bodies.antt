@@ -26,7 +26,7 @@ held_on : (old new : Bench) (at : ℕ → ℕ) (n : ℕ) (ρ : ℕ → flat.Valu
 held_on old new at n ρ g h l lt = holds_on old new (at l) (ρ l) g (h l lt)
 
 -- one slot more
-held_put : (bench : Bench) (at : ℕ → ℕ) (n p : ℕ) (ρ : ℕ → flat.Value) (a : flat.Value) → AreHeld bench at n ρ → Holds bench p a → AreHeld bench (put n p at) (suc n) (put n a ρ)
+pub held_put : (bench : Bench) (at : ℕ → ℕ) (n p : ℕ) (ρ : ℕ → flat.Value) (a : flat.Value) → AreHeld bench at n ρ → Holds bench p a → AreHeld bench (put n p at) (suc n) (put n a ρ)
 held_put bench at n p ρ a h k l lt = by_test (l == n) refl
   where
     by_test : (b : Bool) → (l == n) ≡ b → Holds bench (if b then p else at l) (if b then a else ρ l)

@@ -10,3 +10,4 @@ pub mod Closures
 pub mod Tests
 pub mod Endings
 pub mod Bodies
+pub mod Entries

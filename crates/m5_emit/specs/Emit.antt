@@ -1,5 +1,5 @@
 -- What the blocks of a slice become: bodies over the machines' slots.
-use Rattle.std.specs.Prelude.{ℕ, zero, suc, ◌+◌, true, false, pos, List, [], ◌∷◌, map, ◌==◌, if◌then◌else◌}
+use Rattle.std.specs.Prelude.{ℕ, zero, suc, ◌+◌, true, false, pos, List, [], ◌∷◌, map}
 use Rattle.m5_terms.specs.declared.types.World.{World}
 use Rattle.m5_terms.specs.declared.types.World.TheVariants.{Home, Server, Panel, Any}
 use Rattle.m5_terms.specs.declared.types.Op.{Op}
@@ -169,12 +169,12 @@ module _ (d : Dialect) (u : World) where
   fields_then place (suc k) rest = Then (Field 0 place) (fields_then (suc place) k rest)
 
   abbrev pub entry_place : Entry → ℕ → ℕ → ℕ
-  entry_place (by_value m T) k = put k 0 (put (suc k) 1 (λ j. j + 2))
-  entry_place (by_call m A T) k = put k 0 (λ j. if j == suc k then k + 2 else (if j == suc (suc k) then k + 3 else j + 2))
+  entry_place (by_value m T) k = put (suc k) 1 (put k 0 (λ j. j + 2))
+  entry_place (by_call m A T) k = put (suc (suc k)) (k + 3) (put (suc k) (k + 2) (put k 0 (λ j. j + 2)))
 
   abbrev pub entry_body : List Named → Entry → ℕ → Code → Body
-  entry_body ps (by_value m T) k c = code_body ps c (k + 2) (entry_place (by_value m T) k) (k + 2)
-  entry_body ps (by_call m A T) k c = Then (Field 1 0) (Then (Field 1 1) (code_body ps c (k + 3) (entry_place (by_call m A T) k) (k + 4)))
+  entry_body ps (by_value m T) k c = code_body ps c (suc (suc k)) (entry_place (by_value m T) k) (k + 2)
+  entry_body ps (by_call m A T) k c = Then (Field 1 0) (Then (Field 1 1) (code_body ps c (suc (suc (suc k))) (entry_place (by_call m A T) k) (k + 4)))
 
   -- the body of a block whose closure has taken k values
   abbrev pub block_body : List Named → Block → ℕ → Body

@@ -1,5 +1,5 @@
 -- The laws of emission.
-use Rattle.std.specs.Prelude.{◌≡◌, ◌≢◌, ℕ, suc, ◌+◌, ◌<◌, Option, None, List, ◌++◌, Bool, true, false, if◌then◌else◌, IsTrue, length, Some, slice_get, FitsSigned}
+use Rattle.std.specs.Prelude.{◌≡◌, ◌≢◌, ℕ, suc, ◌+◌, ◌<◌, Option, None, List, [], ◌∷◌, ◌++◌, Bool, true, false, if◌then◌else◌, IsTrue, length, Some, slice_get, FitsSigned}
 use Rattle.std.specs.List.{AllZip}
 use Rattle.std.specs.Int.{w64}
 use Rattle.m5_terms.specs.declared.types.World.{World}
@@ -9,6 +9,7 @@ use Rattle.m5_terms.specs.declared.types.Primitive.TheVariants as primitive
 use Rattle.m5_terms.specs.declared.form.LeafForm.TheVariants as leaf_form
 use Rattle.m5_region.specs.declared.value.Value.{Value}
 use Rattle.m5_region.specs.declared.bench.Bench.{Bench}
+use Rattle.m5_region.specs.declared.queue.Ready.{Ready}
 use Rattle.m5_region.specs.Region.{Object}
 use Rattle.m5_machine.specs.Blocks.{Flat}
 use Rattle.m5_machine.specs.Block.{run_body}
@@ -18,14 +19,15 @@ use Rattle.m5_cps.specs.Deeds.{Ran, taking, performed, tested}
 use Rattle.m5_cps.specs.Asks.{goes_on}
 use Rattle.m5_cps.specs.Running.{last}
 use Rattle.m5_cps.specs.Values.{pair, atom, join, closed, enter, put, put_all, filled_by}
+use Rattle.m5_cps.specs.Values as value
 use Rattle.m5_cps.specs.Units.{closure_units}
-use Rattle.m5_flat.specs.Blocks.{Code, straight, closure, test, ends, Blocks}
-use Rattle.m5_flat.specs.Running.{primitive_of, ended, run}
-use Rattle.m5_flat.specs.Values.{Closure, under, Site, taken}
+use Rattle.m5_flat.specs.Blocks.{Code, straight, closure, test, ends, Block, Blocks}
+use Rattle.m5_flat.specs.Running.{primitive_of, ended, run, Entered, resolved}
+use Rattle.m5_flat.specs.Values.{Closure, under, Site, Thread, taken}
 use Rattle.m5_flat.specs.Values as flat
 use Rattle.m5_flat.specs.Fits.{IsPlain}
-use Rattle.m5_emit.specs.Represents.{Represents}
-use Rattle.m5_emit.specs.Emit.{Dialect, Rest, Way, straight_body, closure_body, test_body, ending_body, code_body}
+use Rattle.m5_emit.specs.Represents.{Represents, IsThread}
+use Rattle.m5_emit.specs.Emit.{Dialect, Rest, Way, straight_body, closure_body, test_body, ending_body, code_body, block_body}
 use Rattle.m5_emit.specs.Follows.{Grows, Holds, MayEnter, IsSite, Follows}
 
 -- what stands for a value does so when there are more objects
@@ -148,3 +150,17 @@ BodiesFollow =
     (total : ℕ) (hs : List Value) (code : Flat) (d : Dialect) (u : World) (B : Blocks) (c : Code) (n : ℕ) (at : ℕ → ℕ) (ρ : ℕ → flat.Value) (s : Site) (bench : Bench) →
     MayGo code B u c n ρ s → AreHeld bench at n ρ → IsSite total hs bench s →
     Follows total hs (run B u c n ρ s) (run_body code (code_body d u B.primitives c n at (length bench.slots)) bench)
+
+-- what a thread enters or calls
+abbrev pub begun_by : Thread → flat.Value
+begun_by (enter k x) = k
+begun_by (value.call f x k) = f
+
+-- the body of the block that a thread is about to run follows the block's code, from a bench with the closure and the argument in
+-- its first two slots
+abbrev pub BlocksFollow : Type 0
+BlocksFollow =
+    (total : ℕ) (hs : List Value) (code : Flat) (d : Dialect) (u : World) (B : Blocks) (th : Thread) (i k : ℕ) (σ : ℕ → flat.Value) (b : Block) (e : Entered) (s : Site)
+    (bench : Bench) (r : Ready) → begun_by th ≡ closed (under i k) σ → slice_get B.table i ≡ Some b → resolved B th ≡ Some e → bench.slots ≡ r.code ∷ r.argument ∷ [] →
+    IsThread bench.region.objects r th → IsSite total hs bench s → MayGo code B u e.code e.filled e.slots s →
+    Follows total hs (run B u e.code e.filled e.slots s) (run_body code (block_body d u B.primitives b k) bench)
