@@ -1,12 +1,10 @@
 -- The body of a block that is entered or called follows its code.
-use Rattle.std.proofs.Common.{◌≡◌, ◌+◌, ◌<◌, ℕ, zero, suc, pos, List, [], ◌∷◌, ◌++◌, length, Option, Some, None, slice_get, nat_lt, Bool, true, false, refl, sym, ap, subst, ◌∙◌, arith}
+use Rattle.std.proofs.Common.{◌≡◌, ◌+◌, ◌<◌, ℕ, zero, suc, List, [], ◌∷◌, length, Option, Some, slice_get, nat_lt, Bool, true, false, refl, sym, ap, subst, ◌∙◌, arith}
 use Rattle.std.proofs.lemmas.Bool.{ltb-true, ltb-false}
 use Rattle.m5_terms.specs.TypeExpression.{TypeExpression}
 use Rattle.m5_terms.specs.declared.types.World.{World}
 use Rattle.m5_region.specs.declared.value.Value.{Value}
-use Rattle.m5_region.specs.declared.value.Value.TheVariants as values
 use Rattle.m5_region.specs.declared.bench.Bench.{Bench}
-use Rattle.m5_region.specs.declared.queue.Ready.{Ready}
 use Rattle.m5_machine.specs.declared.step.Instruction.TheVariants as instructions
 use Rattle.m5_machine.specs.Blocks.{Flat}
 use Rattle.m5_machine.specs.Body.{Body, Then}
@@ -16,14 +14,14 @@ use Rattle.m5_cps.specs.Entries.{SlotType, Mode, Entry, by_value, by_call}
 use Rattle.m5_cps.specs.Values.{atom, wrap, join, closed, enter, put}
 use Rattle.m5_cps.specs.Values as value
 use Rattle.m5_cps.specs.Deeds.{Ran}
-use Rattle.m5_flat.specs.Blocks.{Code, Block, Blocks}
+use Rattle.m5_flat.specs.Blocks.{Code, Blocks}
 use Rattle.m5_flat.specs.Running.{run, Entered, entered, called, with_block, enter_block, call_block, resolved}
 use Rattle.m5_flat.specs.Values.{Closure, under, Site, Thread}
 use Rattle.m5_flat.specs.Values as flat
-use Rattle.m5_emit.specs.Represents.{IsArrayOf, Represents, IsThread}
-use Rattle.m5_emit.specs.Emit.{Dialect, fields_then, entry_place, entry_body, code_body, block_body}
+use Rattle.m5_emit.specs.Represents.{IsArrayOf, Represents}
+use Rattle.m5_emit.specs.Emit.{Dialect, fields_then, entry_place, entry_body, code_body}
 use Rattle.m5_emit.specs.Follows.{Grows, Holds, IsSite, Follows}
-use Rattle.m5_emit.specs.Laws.{MayGo, AreHeld, begun_by, BlocksFollow}
+use Rattle.m5_emit.specs.Laws.{MayGo, AreHeld, BlocksFollow}
 use Rattle.m5_emit.proofs.Standing.{got_on, stands_on, array_on}
 use Rattle.m5_emit.proofs.Instructions.{one_longer, part_is, with_slot, slot_grows, grows_on, holds_on, last_holds, slot_fits, then_on}
 use Rattle.m5_emit.proofs.Tests.{grows_none}
@@ -126,3 +124,31 @@ module _ (total : ℕ) (hs : List Value) (code : Flat) (d : Dialect) (u : World)
             (bodies_follow total hs code d u B c (suc (suc (suc k))) place ρ s b2 may
             (held_put b2 _ (suc (suc k)) (k + 3) _ j (held_put b2 _ (suc k) (k + 2) _ x (λ l lt. holds_on last b2 _ _ gs (base last g t l lt)) xh) jh)
             (slot_fits total hs H code b1 b s (slot_fits total hs H code last a s h1)))))
+
+    -- the entry that the thread's block has
+    abbrev Goes : Option Entered → Entry → Type 0
+    Goes o y = (e : Entered) → o ≡ Some e → MayGo code B u e.code e.filled e.slots s → Follows total hs (run B u e.code e.filled e.slots s) (run_body code (fields_then d u 1 k (entry_body d u B.primitives y k c)) bench)
+
+    enters : (y : Entry) (x : flat.Value) → Represents bench.region.objects x argument → Goes (enter_block i k σ x y c) y
+    enters (by_value m T) x qx e is may =
+        let g : entered (closed (under i k) σ) x k σ c ≡ e = cc (is) in
+        subst (λ z. Follows total hs (run B u z.code z.filled z.slots s) (run_body code (fields_then d u 1 k (entry_body d u B.primitives (by_value m T) k c)) bench)) g
+        (value_runs m T x qx (subst (λ z. MayGo code B u z.code z.filled z.slots s) (sym g) may))
+    enters (by_call m A T) x qx e is may = absurd (cc (is))
+
+    answers : (y : Entry) (x j : flat.Value) (a b : Value) → IsArrayOf bench.region.objects (a ∷ b ∷ []) argument → Represents bench.region.objects x a → Represents bench.region.objects j b → Goes (call_block i k σ x j y c) y
+    answers (by_call m A T) x j a b ar qa qb e is may =
+        let g : called (closed (under i k) σ) x j k σ c ≡ e = cc (is) in
+        subst (λ z. Follows total hs (run B u z.code z.filled z.slots s) (run_body code (fields_then d u 1 k (entry_body d u B.primitives (by_call m A T) k c)) bench)) g
+        (call_runs m A T x j a b ar qa qb (subst (λ z. MayGo code B u z.code z.filled z.slots s) (sym g) may))
+    answers (by_value m T) x j a b ar qa qb e is may = absurd (cc (is))
+
+pub blocks_follow : BlocksFollow
+blocks_follow total hs code d u B (enter f x) i k σ b e s bench r eb at re es ti h may =
+    let q : Represents bench.region.objects (closed (under i k) σ) r.code = subst (λ z. Represents bench.region.objects z r.code) eb ti.0 in
+    let o : with_block (slice_get B.table i) (enter_block i k σ x) ≡ Some e = subst (λ z. resolved B (enter z x) ≡ Some e) eb re in
+    enters total hs code d u B s i k σ b.code bench h r.code r.argument es q b.entry x ti.1 e (sym (ap (λ z. with_block z (enter_block i k σ x)) at) ∙ o) may
+blocks_follow total hs code d u B (value.call f x j) i k σ b e s bench r eb at re es ti h may =
+    let q : Represents bench.region.objects (closed (under i k) σ) r.code = subst (λ z. Represents bench.region.objects z r.code) eb ti.2 in
+    let o : with_block (slice_get B.table i) (call_block i k σ x j) ≡ Some e = subst (λ z. resolved B (value.call z x j) ≡ Some e) eb re in
+    answers total hs code d u B s i k σ b.code bench h r.code r.argument es q b.entry x j ti.0 ti.1 ti.3 ti.4 ti.5 e (sym (ap (λ z. with_block z (call_block i k σ x j)) at) ∙ o) may

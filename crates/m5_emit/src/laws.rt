@@ -1,6 +1,6 @@
 //! The laws of emission, each on a function that does nothing.
 
-ghost use Rattle.m5_emit.specs.Laws.{StandsOn, StraightsFollow, ClosuresFollow, TestsFollow, EndingsFollow, BodiesFollow};
+ghost use Rattle.m5_emit.specs.Laws.{StandsOn, StraightsFollow, ClosuresFollow, TestsFollow, EndingsFollow, BodiesFollow, BlocksFollow};
 
 /// What stands for a value in a list of objects does so when objects are added.
 pub fn stands_on_holds()
@@ -31,4 +31,9 @@ pub fn endings_follow_holds()
 /// A block's body follows its code, where that may run: it makes objects of as many units where the code does, and ends alike.
 pub fn bodies_follow_holds()
     ensures { BodiesFollow }
+{}
+
+/// The body of the block that a thread enters or calls follows it: it reads what the closure has taken, and the parts of a call.
+pub fn blocks_follow_holds()
+    ensures { BlocksFollow }
 {}
