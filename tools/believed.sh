@@ -15,7 +15,7 @@ claims='m5_terms/specs/Laws m5_terms/specs/Related m5_keys/specs/Keys m5_lex/spe
   m5_cps_runs/specs/Greeting m5_cps_runs/specs/Chat
   m5_flat/specs/Program m5_flat_typing/specs/Laws m5_close/specs/Closing m5_hoist/specs/Hoisting
   m5_dict/specs/Dictionaries m5_slice/specs/Slicing m5_slice/specs/Going m5_slice/specs/Apart
-  m5_region/specs/Layout m5_region/specs/Bench m5_machine/specs/Run m5_message/specs/Laws m5_marshal/specs/Pack m5_marshal/specs/Unpack
+  m5_region/specs/Layout m5_region/specs/Bench m5_machine/specs/Run m5_emit/specs/Laws m5_message/specs/Laws m5_marshal/specs/Pack m5_marshal/specs/Unpack
   m5_dict_typing/specs/Laws m5_site/specs/Kind
   m5_replay/specs/Laws'
 
