@@ -1,5 +1,5 @@
 -- Turns one after another, and rounds of them.
-use Rattle.std.proofs.Common.{◌≡◌, ◌≢◌, ℕ, ◌+◌, ◌<◌, List, [], ◌∷◌, ◌++◌, Some, length, map, get_or, take, refl, sym, ap, subst, ◌∙◌, append_assoc, append-nil, arith}
+use Rattle.std.proofs.Common.{◌≡◌, ◌≢◌, ℕ, ◌+◌, ◌<◌, List, [], ◌∷◌, ◌++◌, false, Some, length, map, get_or, take, refl, sym, ap, subst, ◌∙◌, append_assoc, append-nil, arith}
 use Rattle.std.specs.List.{AllByRecursion as Each}
 use Rattle.std.proofs.lemmas.List.{map-append, take_more, length-append}
 use Rattle.std.proofs.lemmas.Option.{slice_get-get_or}
@@ -77,7 +77,8 @@ stuck_there O n count N xs i d x old mid new label l h k = record {
   way = record { number = i; site = slice_get-get_or xs i d l ∙ ap Some (sym k.0); made = h.deeds; turns = h.turns; all = refl };
   entries = k.1 ∙ h.made.entries;
   own = h.made.own;
-  stuck = subst (λ (y : SiteName). IsStuck O y.session y.world (h.after.site y.session y.world) label) (sym k.0) k.2;
+  runs = subst (λ (y : SiteName). (h.after.site y.session y.world).stopped ≡ false) (sym k.0) k.2;
+  stuck = subst (λ (y : SiteName). IsStuck O y.session y.world (h.after.site y.session y.world) label) (sym k.0) k.3;
 }
 
 -- ---- rounds
@@ -122,6 +123,7 @@ strands_rounds O n count N xs old mid new x label h k = record {
   way = record { rounds = h.rounds; begins = h.after; going = h.going; made = k.deeds; last = k.way; all = refl };
   entries = entries_on old mid new (joined (map joined h.rounds)) k.deeds h.made.entries k.entries;
   own = own_append (joined (map joined h.rounds)) k.deeds h.made.own k.own;
+  runs = k.runs;
   stuck = k.stuck;
 }
 

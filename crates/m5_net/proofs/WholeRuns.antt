@@ -64,7 +64,7 @@ finishes O S old mid new h k = record {
 
 -- the meaning goes wrong at one of the named turns
 pub strands_first : (O : Bundle) (S : Scenario) (old new : Running) (x : SiteName) (label : ℕ) → TurnsEnd O (limits_of S) S.sessions (Open O S) S.order old new (going.Wrong x label) → OrderEnds O S old new (going.Wrong x label)
-strands_first O S old new x label k = record { deeds = k.deeds; at = k.at; way = inl k.way; entries = k.entries; own = k.own; stuck = k.stuck }
+strands_first O S old new x label k = record { deeds = k.deeds; at = k.at; way = inl k.way; entries = k.entries; own = k.own; runs = k.runs; stuck = k.stuck }
 
 -- or in a round
 strands_then : (O : Bundle) (S : Scenario) (old mid new : Running) (x : SiteName) (label : ℕ) (h : TakesTurns O (limits_of S) S.sessions (Open O S) S.order old mid) → RoundsEnd O (limits_of S) S.sessions h.after (sites_of S.sessions) mid new (going.Wrong x label) → OrderEnds O S old new (going.Wrong x label)
@@ -74,6 +74,7 @@ strands_then O S old mid new x label h k = record {
   way = inr (record { named = h.deeds; opened = h.after; order = h.turns; made = k.deeds; last = k.way; all = refl });
   entries = entries_on old mid new (joined h.deeds) k.deeds h.made.entries k.entries;
   own = own_append (joined h.deeds) k.deeds h.made.own k.own;
+  runs = k.runs;
   stuck = k.stuck;
 }
 
@@ -126,6 +127,7 @@ is_wrong O S old new x label none k =
       deeds = k.deeds;
       at = k.at;
       way = k.way;
+      runs = k.runs;
       stuck = k.stuck;
       shown = shown;
       worlds = subst (All IsOwnEntry) (sym shown) (own_entries k.deeds k.own);

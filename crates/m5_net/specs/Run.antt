@@ -1,5 +1,5 @@
 -- The history of an object's run in the plain order, to its end.
-use Rattle.std.specs.Prelude.{◌≡◌, ◌⊎◌, ℕ, List, map, All}
+use Rattle.std.specs.Prelude.{◌≡◌, ◌⊎◌, ℕ, false, List, map, All}
 use Rattle.m5_terms.specs.declared.ask.Entry.{Entry}
 use Rattle.m5_terms.specs.declared.ask.End.TheVariants as end
 use Rattle.m5_terms.specs.declared.ask.History.{History}
@@ -31,6 +31,7 @@ pub record IsWrongRun (O : Bundle) (S : Scenario) (H : History) : Type 0 where
   pub deeds : List (Deed (List ℕ))
   pub at : Net O (limits_of S)
   pub way : OrderUpTo (TurnOf (object_kind O (limits_of S))) S (opening_of (object_kind O (limits_of S)) S) site deeds at
+  pub runs : (at.site site.session site.world).stopped ≡ false
   pub stuck : IsStuck O site.session site.world (at.site site.session site.world) label
   pub shown : H.entries ≡ map shows deeds
   pub worlds : All (λ (e : Entry). IsAtItsWorld (primitive_of e.act) e.world) H.entries

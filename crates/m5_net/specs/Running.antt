@@ -1,5 +1,5 @@
 -- A run on its way, as the code holds it, beside the network that it stands for; and what a turn makes of both.
-use Rattle.std.specs.Prelude.{◌≡◌, ℕ, ◌≤◌, List, [], ◌++◌, length, map}
+use Rattle.std.specs.Prelude.{◌≡◌, ℕ, ◌≤◌, false, List, [], ◌++◌, length, map}
 use Rattle.std.specs.List.{AllByRecursion as Each}
 use Rattle.m5_terms.specs.declared.types.World.{World}
 use Rattle.m5_terms.specs.declared.ask.Entry.{Entry}
@@ -64,10 +64,10 @@ pub record TakesTurn (O : Bundle) (n : Limits) (count : ℕ) (N : Net O n) (x : 
   pub turn : TurnOf (object_kind O n) N x deeds after
   pub made : Made O n count old new deeds after
 
--- the meaning of this site goes wrong at its turn, and the history stays
+-- the site is not stopped, its meaning goes wrong at its turn, and the history stays
 abbrev pub TurnEnds : (O : Bundle) (n : Limits) → ℕ → Net O n → SiteName → Running → Running → Going → Type 0
 TurnEnds O n count N x old new going.On = TakesTurn O n count N x old new
-TurnEnds O n count N x old new (going.Wrong site label) = (site ≡ x) × (new.shared.entries ≡ old.shared.entries) × IsStuck O x.session x.world (N.site x.session x.world) label
+TurnEnds O n count N x old new (going.Wrong site label) = (site ≡ x) × (new.shared.entries ≡ old.shared.entries) × ((N.site x.session x.world).stopped ≡ false) × IsStuck O x.session x.world (N.site x.session x.world) label
 
 -- one turn of each site
 pub record TakesTurns (O : Bundle) (n : Limits) (count : ℕ) (N : Net O n) (xs : List SiteName) (old new : Running) : Type 0 where
@@ -101,6 +101,7 @@ pub record Strands (O : Bundle) (n : Limits) (up_to : List (Deed (List ℕ)) →
   pub way : up_to deeds at
   pub entries : new.shared.entries ≡ old.shared.entries ++ map shows deeds
   pub own : Each IsOwnDeed deeds
+  pub runs : (at.site x.session x.world).stopped ≡ false
   pub stuck : IsStuck O x.session x.world (at.site x.session x.world) label
 
 abbrev pub TurnsEnd : (O : Bundle) (n : Limits) → ℕ → Net O n → List SiteName → Running → Running → Going → Type 0

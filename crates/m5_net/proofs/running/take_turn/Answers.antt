@@ -64,7 +64,7 @@ returns-in-Wrong-clause-turned c = λ n count N h i.
     let ahead = taken_ahead c.args.object.now s w (N.site s w) c.in-Some.site _ here (h.sites s w i) in
     let made = by_name c.args.object.now c.in-Some.site old.shared c.turn.new.shared c.in_ok-left.field-0 s w ready c.in_ok-left.ensures.turned n N ahead.0 h.board ahead.1 in
     let stuck = rw c.in-Wrong.is at made in
-    (refl, stuck.0, stuck.1)
+    (refl, stuck.0, ahead.0, stuck.1)
 
 pub returns-in-Wrong-clause-ready : goal.returns-in-Wrong-clause-ready
 returns-in-Wrong-clause-ready c = ready_after c.args.object.now c.args.name None c.args.running.now _ c.requires.ready c.take_site.ensures.left tt c.take_site.ensures.count c.turn.ensures.count
